@@ -1,0 +1,45 @@
+-- Checking, Algorithm 3: z within B − S, then w_i = a_i z − t_i c, then H of the high parts against c'.
+-- Assumes nothing: these are definitions.
+use mathlib.Core.Bool.{Bool, _&&_}
+use mathlib.Core.List.{List, [], _∷_}
+use Prim.Native.Nat.{ℕ, _+_, _*_}
+use lib.Dec.{eqb, leb}
+use lib.IntN.{ℤ, _-ℤ_}
+use lib.ListN.{length}
+use Rattle.whole.specs.Refusal.{Test, _orElse_, every, sameBytes}
+use Rattle.ring.specs.Product.{mul}
+use Rattle.ring.specs.Lists.{naturals, integers, residues}
+use Rattle.sets.specs.declared.Numbers.{Numbers}
+use Rattle.sets.specs.Limits.{messageLimit}
+use Rattle.sampling.specs.Streams.{aOf, encOf, challenge, messageDigest, keyDigest}
+use Rattle.records.specs.Layout.{marked, stretch, tBytes, publicBytes, signatureBytes}
+use Rattle.records.specs.Public.{tOf, allT, seedAOf, tInRange}
+use Rattle.records.specs.Signature.{zOf, challengeOf, zInRange}
+use Rattle.sampling.specs.Positions.{polynomialOf}
+use Rattle.signing.specs.Attempt.{highsOf, fitsByte}
+
+-- w_(i + 1) = a_(i + 1) z − t_(i + 1) c, from 0 to q − 1
+unfoldable pub checkW : Numbers → List ℕ → (ℕ → List ℕ) → List ℤ → List ℕ → ℕ → List ℕ
+checkW set seedA t z c′ i =
+    residues (set .q) (set .n)
+    (λ j. mul (set .n) (naturals (aOf set seedA i)) (integers z) j -ℤ mul (set .n) (naturals (t i)) (polynomialOf (encOf set c′)) j)
+
+-- the high parts that a receiver computes
+unfoldable pub checkHighs : Numbers → List ℕ → (ℕ → List ℕ) → List ℤ → List ℕ → List ℤ
+checkHighs set seedA t z c′ = highsOf set (checkW set seedA t z c′)
+
+-- g of a public record: the digest of its packed t_1..t_k
+unfoldable pub publicG : Numbers → List ℕ → List ℕ
+publicG set public = keyDigest set (stretch 2 (set .k * tBytes set) public)
+
+unfoldable pub checkTests : Numbers → List ℕ → List ℕ → List ℕ → List Test
+checkTests set public message signature =
+    ((eqb (length public) (publicBytes set) && eqb (length signature) (signatureBytes set)) orElse 1)
+    ∷ ((marked set 1 public && marked set 3 signature) orElse 2)
+    ∷ (leb (length message) messageLimit orElse 3)
+    ∷ (tInRange set (allT set public) orElse 5)
+    ∷ (zInRange set (zOf set signature) orElse 9)
+    ∷ (every fitsByte (checkHighs set (seedAOf set public) (tOf set public) (zOf set signature) (challengeOf set signature)) orElse 10)
+    ∷ (sameBytes (challenge set (checkHighs set (seedAOf set public) (tOf set public) (zOf set signature) (challengeOf set signature)) (messageDigest set message) (publicG set public))
+    (challengeOf set signature) orElse 11)
+    ∷ []

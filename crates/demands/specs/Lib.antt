@@ -1,0 +1,2 @@
+pub mod TwelveSums
+pub mod Alike

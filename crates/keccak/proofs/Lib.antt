@@ -1,0 +1,4 @@
+pub mod Bounds
+pub mod Determined
+pub mod LaneBits
+pub mod Rounds

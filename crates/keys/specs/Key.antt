@@ -1,0 +1,47 @@
+-- Key making, Algorithm 1 with s, e_1..e_k, seed_a and seed_y lent: t_i = a_i s + e_i modulo q.
+-- Assumes nothing: these are definitions.
+use mathlib.Core.Bool.{Bool, _&&_}
+use mathlib.Core.List.{List, [], _∷_}
+use Prim.Native.Nat.{ℕ, _*_}
+use lib.Dec.{eqb}
+use lib.IntN.{_+ℤ_}
+use lib.ListN.{length}
+use Rattle.whole.specs.Table.{joined}
+use Rattle.whole.specs.Refusal.{Test, _orElse_, eachBelow}
+use Rattle.ring.specs.Product.{mul}
+use Rattle.ring.specs.Lists.{naturals, signedBytes, residues}
+use Rattle.ring.specs.Largest.{sumPasses}
+use Rattle.sets.specs.declared.Numbers.{Numbers}
+use Rattle.sampling.specs.Streams.{aOf, keyDigest}
+use Rattle.records.specs.Layout.{seedBytes, publicBytes, secretBytes}
+use Rattle.records.specs.Public.{packedT, publicRecord}
+use Rattle.records.specs.Secret.{secretRecord, eOf, inByteRange}
+
+-- t_(i + 1)
+unfoldable pub keyT : Numbers → List ℕ → List ℕ → List ℕ → ℕ → List ℕ
+keyT set s e seedA i =
+    residues (set .q) (set .n) (λ j. mul (set .n) (naturals (aOf set seedA i)) (signedBytes s) j +ℤ signedBytes (eOf set e i) j)
+
+-- t_1..t_k in a row
+unfoldable pub allKeyT : Numbers → List ℕ → List ℕ → List ℕ → List ℕ
+allKeyT set s e seedA = joined (set .k) (keyT set s e seedA)
+
+-- the two records
+unfoldable pub publicOf : Numbers → List ℕ → List ℕ → List ℕ → List ℕ
+publicOf set s e seedA = publicRecord set (allKeyT set s e seedA) seedA
+
+unfoldable pub secretOf : Numbers → List ℕ → List ℕ → List ℕ → List ℕ → List ℕ
+secretOf set s e seedA seedY = secretRecord set s e seedA seedY (keyDigest set (packedT set (allKeyT set s e seedA)))
+
+-- checkE passes for every e_i
+unfoldable pub eachEPasses : Numbers → List ℕ → Bool
+eachEPasses set e = eachBelow (set .k) (λ i. sumPasses (set .h) (set .e) (eOf set e i))
+
+unfoldable pub makeKeyTests : Numbers → List ℕ → List ℕ → List ℕ → List ℕ → ℕ → ℕ → List Test
+makeKeyTests set s e seedA seedY publicLength secretLength =
+    ((eqb (length s) (set .n) && (eqb (length e) (set .k * set .n) && (eqb (length seedA) seedBytes && (eqb (length seedY) seedBytes
+    && (eqb publicLength (publicBytes set) && eqb secretLength (secretBytes set)))))) orElse 1)
+    ∷ ((inByteRange s && inByteRange e) orElse 5)
+    ∷ (sumPasses (set .h) (set .s) s orElse 6)
+    ∷ (eachEPasses set e orElse 7)
+    ∷ []

@@ -1,0 +1,3 @@
+pub mod Steps
+pub mod Determined
+pub mod Signs

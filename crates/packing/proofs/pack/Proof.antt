@@ -1,0 +1,103 @@
+-- `pack` meets its contract. The loop's invariant: the first k bytes are written, and the bits that wait with the values that were not
+-- read are the rest of the number. The measure is the number of bytes left.
+-- Assumes nothing.
+use Prim.Native.Nat.{_≤_, _+_, _-_, zero-le}
+use mathlib.Core.Logic.{⊎-elim}
+use native.Mathlib.Omega.{arith}
+use lib.ListN.{length}
+use Rattle.packing.specs.Digits.{bytesFor}
+use Rattle.packing.proofs.Steps.{Packing, packing-none, packing-read, packing-write, packing-length, packing-all, packing-few}
+use Rattle.packing.proofs.pack.Statement.{statement}
+use Rattle.packing.proofs.pack.Tie as tie
+
+abbrev Inv-loop : tie.InvT-loop
+Inv-loop vals b out₀ len acc₀ have₀ at₀ k₀ out acc have at k =
+    (k ≤ bytesFor b (length vals)) × ((at ≤ k) × Packing b vals out₀ out acc have at k)
+
+abbrev μ-loop : tie.MeasureT-loop
+μ-loop vals b out₀ len acc₀ have₀ at₀ k₀ out acc have at k = bytesFor b (length vals) - k
+
+-- after the refill a byte waits, and what is left is as it was
+ready : (c : tie.Joined1 Inv-loop μ-loop)
+    → let l = c .before .before .loop in
+    let a = c .before .before .before .before .before .args in
+    (8 ≤ c .if1 .have) × ((c .if1 .at ≤ l .k + 1) × Packing (a .b) (a .vals .now) (a .out .now) (l .out) (c .if1 .acc) (c .if1 .have) (c .if1 .at) (l .k))
+ready c =
+    let l = c .before .before .loop in
+    let p = c .before .before .before .before .before .pre in
+    ⊎-elim (λ w. (omega arith, (omega arith, packing-read p (l .inv .1 .1) (w .1 .ensures) (omega arith) (omega arith) (omega arith))))
+    (λ w. (omega arith, (omega arith, rw (w .1, w .2, w .3) (l .inv .1 .1))))
+    (c .if1 .came)
+
+mul-len : tie.Need-mul-len Inv-loop μ-loop
+mul-len c = omega (arith, packing-few (c .before .before .pre))
+
+add-len : tie.Need-add-len Inv-loop μ-loop
+add-len c = omega (arith, packing-few (c .before .before .pre))
+
+loop-holds : tie.Need-loop-holds Inv-loop μ-loop
+loop-holds c = (zero-le, (zero-le, packing-none _ _ _))
+
+padded-requires : tie.Need-padded-requires Inv-loop μ-loop
+padded-requires c κs = tt
+
+above-requires : tie.Need-above-requires Inv-loop μ-loop
+above-requires c κs = omega arith
+
+add-have : tie.Need-add-have Inv-loop μ-loop
+add-have c = omega arith
+
+add-at : tie.Need-add-at Inv-loop μ-loop
+add-at c = omega arith
+
+cast-out : tie.Need-cast-out Inv-loop μ-loop
+cast-out c = omega arith
+
+slice-write-out : tie.Need-slice-write-out Inv-loop μ-loop
+slice-write-out c =
+    let at-loop = c .before .before .before in
+    let p = at-loop .before .before .before .pre in
+    omega (arith, p .room, packing-length p (at-loop .loop .inv .1 .1) (at-loop .loop .inv .0))
+
+sub-have : tie.Need-sub-have Inv-loop μ-loop
+sub-have c = omega (arith, ready (c .before .before) .0)
+
+add-k : tie.Need-add-k Inv-loop μ-loop
+add-k c = omega arith
+
+loop-less : tie.Need-loop-less Inv-loop μ-loop
+loop-less c = omega arith
+
+loop-again : tie.Need-loop-again Inv-loop μ-loop
+loop-again c =
+    let at-start = c .before .before .before .before .before .before .before in
+    let r = ready (c .before .before) in
+    (omega arith, (r .1 .0, packing-write (at-start .pre) (r .1 .1) (omega arith) (omega arith) (omega arith) (omega arith) (omega arith)))
+
+same-length : tie.Need-same-length Inv-loop μ-loop
+same-length c = packing-length (c .before .before .before .before .pre) (c .before .loop .inv .1 .1) (c .before .loop .inv .0)
+
+returns : tie.Need-returns Inv-loop μ-loop
+returns c = packing-all (c .before .before .before .before .pre) (c .before .loop .inv .1 .1) (omega arith)
+
+pub pack-spec : {M : Type 1} → statement M
+pack-spec =
+    tie.close
+    (tie.spec
+    Inv-loop
+    μ-loop
+    mul-len
+    add-len
+    loop-holds
+    padded-requires
+    above-requires
+    add-have
+    add-at
+    cast-out
+    slice-write-out
+    sub-have
+    add-k
+    loop-less
+    loop-again
+    same-length
+    returns)

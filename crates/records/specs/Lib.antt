@@ -1,0 +1,4 @@
+pub mod Layout
+pub mod Public
+pub mod Secret
+pub mod Signature

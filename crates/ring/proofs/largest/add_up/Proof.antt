@@ -1,0 +1,52 @@
+-- `ring::largest::add_up` meets its contract: the loop has summed the first i places. Assumes nothing.
+use Prim.Native.Nat.{_-_}
+use native.Mathlib.Omega.{arith}
+use lib.ListN.{length}
+use Rattle.ring.proofs.Places.{Adding, adding-none, adding-more, adding-all}
+use Rattle.ring.proofs.largest.add_up.Statement.{statement}
+use Rattle.ring.proofs.largest.add_up.Tie as tie
+
+abbrev Inv-loop : tie.InvT-loop
+Inv-loop slots sum₀ i₀ sum i = Adding slots sum i
+
+abbrev μ-loop : tie.MeasureT-loop
+μ-loop slots sum₀ i₀ sum i = length slots - i
+
+loop-holds : tie.Need-loop-holds Inv-loop μ-loop
+loop-holds c = adding-none (c .args .slots .now)
+
+mul-sum : tie.Need-mul-sum Inv-loop μ-loop
+mul-sum c = omega arith
+
+shared-slice-read-sum : tie.Need-shared-slice-read-sum Inv-loop μ-loop
+shared-slice-read-sum c = omega arith
+
+add-sum : tie.Need-add-sum Inv-loop μ-loop
+add-sum c = omega (arith, c .before .before .before .pre .small .at (c .before .before .loop .i) (omega arith))
+
+add-i : tie.Need-add-i Inv-loop μ-loop
+add-i c = omega arith
+
+loop-less : tie.Need-loop-less Inv-loop μ-loop
+loop-less c = omega arith
+
+loop-again : tie.Need-loop-again Inv-loop μ-loop
+loop-again c = adding-more (c .before .before .before .pre .small) (c .before .before .loop .inv) (omega arith)
+
+returns : tie.Need-returns Inv-loop μ-loop
+returns c = adding-all (c .before .loop .inv) (omega arith)
+
+pub add-up-spec : {M : Type 1} → statement M
+add-up-spec =
+    tie.close
+    (tie.spec
+    Inv-loop
+    μ-loop
+    loop-holds
+    mul-sum
+    shared-slice-read-sum
+    add-sum
+    add-i
+    loop-less
+    loop-again
+    returns)

@@ -1,0 +1,27 @@
+-- `ring::largest::pick` meets its contract. Assumes nothing.
+use borrow.Author.Needs.{needs}
+use mathlib.Core.Path.{ap, _∙_}
+use Prim.Native.Nat.{ℕ}
+use lib.ListN.{length}
+use Rattle.ring.specs.Largest.{places, sizes}
+use Rattle.ring.proofs.Places.{cleared}
+use Rattle.ring.proofs.largest.pick.Statement.{statement}
+use Rattle.ring.proofs.largest.pick.Tie as tie
+
+clear-requires : tie.Need-clear-requires
+clear-requires c κs = search needs
+
+push-all-requires : tie.Need-push-all-requires
+push-all-requires c κs = cleared (length (c .before .before .before .before .before .before .before .args .slots .now)) (c .before .before .before .clear .ensures)
+
+same-length : tie.Need-same-length
+same-length c = search needs
+
+returns : tie.Need-returns
+returns c =
+    let start = c .before .before .before .before .before .before .before .before .before .before in
+    c .before .before .push-all .ensures
+    ∙ ap (λ (h : ℕ). places h (sizes (start .args .e .now))) (c .before .before .before .before .before .before .clear .kept .0)
+
+pub pick-spec : {M : Type 1} → statement M
+pick-spec = tie.close (tie.spec clear-requires push-all-requires same-length returns)

@@ -1,0 +1,58 @@
+-- `ring::sparse::turned_byte` meets its contract. Assumes nothing.
+use borrow.Author.Needs.{needs, sfits-of}
+use Prim.Native.Nat.{_+_, _-_}
+use lib.ListN.{length, getD}
+use Rattle.ring.proofs.SparseLaws.{byte-turn-low, byte-turn-high, minus-fits, signed-small}
+use Rattle.ring.proofs.sparse.turned_byte.Statement.{statement}
+use Rattle.ring.proofs.sparse.turned_byte.Tie as tie
+
+shared-slice-read-signed-byte : tie.Need-shared-slice-read-signed-byte
+shared-slice-read-signed-byte c = search needs
+
+signed-byte-requires : tie.Need-signed-byte-requires
+signed-byte-requires c κs = search needs
+
+add-signed-byte : tie.Need-add-signed-byte
+add-signed-byte c = search needs
+
+sub-signed-byte : tie.Need-sub-signed-byte
+sub-signed-byte c = search needs
+
+shared-slice-read-signed-byte-2 : tie.Need-shared-slice-read-signed-byte-2
+shared-slice-read-signed-byte-2 c = search needs
+
+signed-byte-requires-2 : tie.Need-signed-byte-requires-2
+signed-byte-requires-2 c κs = search needs
+
+sub-result : tie.Need-sub-result
+sub-result c =
+    let args = c .before .before .before .before .args in
+    let place = length (args .s .now) + args .k - args .p in
+    minus-fits (c .signed-byte2 .result) (sfits-of (c .signed-byte2 .ok))
+    (signed-small (getD (args .s .now) place 0) (c .before .shared-slice-known3 .given place .fits) (c .signed-byte2 .ensures))
+
+returns : tie.Need-returns
+returns c =
+    let args = c .before .before .before .before .args in
+    byte-turn-low (args .s .now) (args .p) (args .k) (c .signed-byte .result) (sfits-of (c .signed-byte .ok))
+    (c .before .shared-slice-known2 .given (args .k - args .p) .fits) (c .before .before .if1 .taken) (c .signed-byte .ensures)
+
+returns-2 : tie.Need-returns-2
+returns-2 c =
+    let args = c .before .before .before .before .args in
+    byte-turn-high (args .s .now) (args .p) (args .k) (c .signed-byte2 .result) (sfits-of (c .signed-byte2 .ok))
+    (c .before .shared-slice-known3 .given (length (args .s .now) + args .k - args .p) .fits) (c .before .before .if1 .left) (c .signed-byte2 .ensures)
+
+pub turned-byte-spec : {M : Type 1} → statement M
+turned-byte-spec =
+    tie.close
+    (tie.spec
+    shared-slice-read-signed-byte
+    signed-byte-requires
+    add-signed-byte
+    sub-signed-byte
+    shared-slice-read-signed-byte-2
+    signed-byte-requires-2
+    sub-result
+    returns
+    returns-2)

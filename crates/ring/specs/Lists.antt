@@ -1,0 +1,34 @@
+-- Lists of numbers as polynomials, and the residues of a polynomial as a list.
+-- Assumes nothing.
+use mathlib.Core.List.{List}
+use mathlib.Core.Path.{_≡_}
+use Prim.Native.Nat.{ℕ, _<_}
+use lib.ListN.{length, getD}
+use lib.IntN.{ℤ, pos}
+use Rattle.whole.specs.Residue.{residue, residue-lt}
+use Rattle.whole.specs.Table.{table, length-table}
+use Rattle.whole.specs.Below.{Below, below-table}
+use Rattle.whole.specs.Twos.{signed}
+use Rattle.ring.specs.Product.{Poly}
+
+-- coefficients that are no less than 0, as residues are
+abbrev pub naturals : List ℕ → Poly
+naturals xs k = pos (getD xs k 0)
+
+-- signed coefficients
+abbrev pub integers : List ℤ → Poly
+integers zs k = getD zs k (pos 0)
+
+-- one signed byte a coefficient, as secrets are
+abbrev pub signedBytes : List ℕ → Poly
+signedBytes bytes k = signed 8 (getD bytes k 0)
+
+-- f modulo q: its n coefficients from 0 to q − 1
+abbrev pub residues : ℕ → ℕ → Poly → List ℕ
+residues q n f = table n (λ k. residue q (f k))
+
+pub length-residues : (q n : ℕ) (f : Poly) → length (residues q n f) ≡ n
+length-residues q n f = length-table n (λ k. residue q (f k))
+
+pub residues-below : (q n : ℕ) (f : Poly) → 0 < q → Below q (residues q n f)
+residues-below q n f h = below-table q n (λ k. residue q (f k)) (λ k l. residue-lt q (f k) h)

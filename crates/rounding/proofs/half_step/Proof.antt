@@ -1,0 +1,24 @@
+-- `rounding::half_step` meets its contract. Assumes nothing.
+use Prim.Native.Nat.{_-_, _^_, _%_, _*_}
+use mathlib.Core.Path.{_≡_}
+use native.Mathlib.Nat.{one-mul, mod-eq-of-lt, lt-trans}
+use lib.Dec.{lit<}
+use borrow.Author.Needs.{needs}
+use Rattle.rounding.proofs.Laws.{half-small}
+use Rattle.rounding.proofs.half_step.Statement.{statement}
+use Rattle.rounding.proofs.half_step.Tie as tie
+
+sub-result : tie.Need-sub-result
+sub-result c = search needs
+
+shl-result : tie.Need-shl-result
+shl-result c = search needs
+
+returns : tie.Need-returns
+returns c =
+    let small = half-small (c .args .d) (c .pre .0) (c .pre .1) in
+    let is : 1 * 2 ^ (c .args .d - 1) % 4294967296 ≡ 2 ^ (c .args .d - 1) = rw (one-mul (2 ^ (c .args .d - 1))) (mod-eq-of-lt (lt-trans (small .1) (lit< tt))) in
+    record { is = is; some = rw is (small .0); small = rw is (small .1) }
+
+pub half-step-spec : {M : Type 1} → statement M
+half-step-spec = tie.close (tie.spec sub-result shl-result returns)

@@ -1,0 +1,3 @@
+pub mod Centred
+pub mod Parts
+pub mod Tests

@@ -1,0 +1,4 @@
+pub mod Candidates
+pub mod Values
+pub mod Positions
+pub mod Streams

@@ -1,0 +1,64 @@
+-- The candidate rule for positions with signs. Candidates come in stream order. One whose position is free is taken. One whose
+-- position is taken already is skipped if at least as many candidates remain after it as positions are still needed; otherwise
+-- the next free position upward, from n − 1 on to 0, gets its sign. Positions are answered in the order drawn.
+-- Assumes nothing: these are definitions.
+use mathlib.Core.Bool.{Bool, true, false, cond, not, _||_}
+use mathlib.Core.List.{List, [], _∷_, map}
+use Prim.Native.Nat.{ℕ, zero, suc, _+_, _/_, _%_, _^_}
+use lib.Dec.{ltb, eqb}
+use lib.IntN.{ℤ, pos, negsuc}
+use lib.ListN.{length}
+use Rattle.whole.specs.Table.{table}
+use Rattle.ring.specs.Product.{Poly}
+use Rattle.ring.specs.Sparse.{sparse}
+use Rattle.sampling.specs.Candidates.{emit, held, piece}
+
+-- a position drawn, with its sign
+pub record Drawn : Type 0 where
+  pub position : ℕ
+  pub sign : ℤ
+
+-- whether p is among the positions ps
+unfoldable pub isIn : ℕ → List ℕ → Bool
+isIn p [] = false
+isIn p (x ∷ ps) = eqb p x || isIn p ps
+
+-- p if it is free, else the next free position upward, from n − 1 on to 0: `steps` positions are looked at
+unfoldable pub free : ℕ → ℕ → ℕ → List ℕ → ℕ
+free n zero p ps = p
+free n (suc steps) p ps = cond (isIn p ps) (free n steps ((p + 1) % n) ps) p
+
+-- whether a candidate is taken, with `left` candidates after it and `need` positions still needed
+abbrev pub takesPosition : ℕ → ℕ → ℕ → List ℕ → Bool
+takesPosition need left p ps = not (isIn p ps) || ltb left need
+
+-- the positions with signs taken of the candidates, where `need` are needed and those of ps are taken already
+unfoldable pub positions : ℕ → ℕ → List ℕ → List Drawn → List Drawn
+positions n need ps [] = []
+positions n zero ps (c ∷ cs) = []
+positions n (suc need) ps (c ∷ cs) =
+    emit (takesPosition (suc need) (length cs) (c .position) ps) (record { position = free n n (c .position) ps; sign = c .sign })
+    (positions n
+    (cond (takesPosition (suc need) (length cs) (c .position) ps) need (suc need))
+    (cond (takesPosition (suc need) (length cs) (c .position) ps) (free n n (c .position) ps ∷ ps) ps)
+    cs)
+
+-- the sign that a candidate's third byte gives: −1 where its low bit is set, +1 where it is clear
+abbrev pub signOf : ℕ → ℤ
+signOf byte = cond (eqb (byte % 2) 1) (negsuc 0) (pos 1)
+
+-- the candidates of a stream, 3 bytes each: the low `bits` bits of the first two bytes are a position, the third gives the sign
+unfoldable pub drawnCandidates : ℕ → List ℕ → List Drawn
+drawnCandidates bits stream =
+    table (held 3 stream) (λ j. record { position = piece 3 stream j % 2 ^ bits; sign = signOf (piece 3 stream j / 65536) })
+
+-- ---- the polynomial that positions with signs stand for
+
+abbrev pub positionsOf : List Drawn → List ℕ
+positionsOf c = map (λ (t : Drawn). t .position) c
+
+abbrev pub signsOf : List Drawn → List ℤ
+signsOf c = map (λ (t : Drawn). t .sign) c
+
+abbrev pub polynomialOf : List Drawn → Poly
+polynomialOf c = sparse (positionsOf c) (signsOf c)

@@ -1,0 +1,67 @@
+-- The seven streams: each is SHAKE256 over a two-byte mark and its inputs. What is drawn or hashed from each.
+-- Bytes make numbers low byte first.
+-- Assumes nothing: these are definitions.
+use mathlib.Core.List.{List, [], _∷_, _++_, map}
+use Prim.Native.Nat.{ℕ, _+_, _-_, _*_, _/_, _%_}
+use lib.IntN.{ℤ, pos, _-ℤ_}
+use lib.ListN.{take, drop}
+use Rattle.shake.specs.Shake256.{shake256}
+use Rattle.whole.specs.Twos.{twos}
+use Rattle.sets.specs.declared.Numbers.{Numbers}
+use Rattle.sampling.specs.Candidates.{candidates}
+use Rattle.sampling.specs.Values.{values}
+use Rattle.sampling.specs.Positions.{Drawn, positions, drawnCandidates}
+
+-- the mark of stream j, 1 to 7: 53 11 to 53 17 in set I
+abbrev pub mark : Numbers → ℕ → List ℕ
+mark s j = 0x53 ∷ (16 * s .digit + j) ∷ []
+
+-- the first n bytes of stream j
+abbrev pub stream : Numbers → ℕ → List ℕ → ℕ → List ℕ
+stream s j inputs n = shake256 (mark s j ++ inputs) n
+
+-- a number as two bytes, low first
+abbrev pub twoBytes : ℕ → List ℕ
+twoBytes x = (x % 256) ∷ (x / 256 % 256) ∷ []
+
+-- ---- 1: a_1..a_k from seed_a: 4kn candidates of 4 bytes, range q, over all k polynomials
+
+unfoldable pub allA : Numbers → List ℕ → List ℕ
+allA s seedA = values (s .q) (s .k * s .n) (candidates 4 (s .«t_bits») (stream s 1 seedA (4 * (4 * (s .k * s .n)))))
+
+-- a_(i + 1)
+unfoldable pub aOf : Numbers → List ℕ → ℕ → List ℕ
+aOf s seedA i = take (s .n) (drop (s .n * i) (allA s seedA))
+
+-- ---- 2: y from rand and the counter: 2n candidates of 3 bytes, range 2B + 1, each value less B
+
+-- a value drawn, less B
+abbrev pub lessB : Numbers → ℕ → ℤ
+lessB s v = pos v -ℤ pos (s .b)
+
+unfoldable pub yOf : Numbers → List ℕ → ℕ → List ℤ
+yOf s rand counter =
+    map (lessB s) (values (2 * s .b + 1) (s .n) (candidates 3 (s .«z_bits») (stream s 2 (rand ++ twoBytes counter) (3 * (2 * s .n)))))
+
+-- ---- 3 to 6: digests
+
+-- rand, from seed_y, r and G of the message
+unfoldable pub randOf : Numbers → List ℕ → List ℕ → List ℕ → List ℕ
+randOf s seedY r digest = stream s 3 (seedY ++ r ++ digest) 32
+
+-- G of the message
+unfoldable pub messageDigest : Numbers → List ℕ → List ℕ
+messageDigest s message = stream s 4 message 40
+
+-- g, of the packed t_1..t_k
+unfoldable pub keyDigest : Numbers → List ℕ → List ℕ
+keyDigest s packedT = stream s 5 packedT 40
+
+-- H: c' from the high parts, one signed byte each, i then coefficient, G of the message, and g
+unfoldable pub challenge : Numbers → List ℤ → List ℕ → List ℕ → List ℕ
+challenge s highs digest g = stream s 6 (map (twos 8) highs ++ digest ++ g) 32
+
+-- ---- 7: Enc: h positions with signs from c', 256 candidates of 3 bytes
+
+unfoldable pub encOf : Numbers → List ℕ → List Drawn
+encOf s c′ = positions (s .n) (s .h) [] (drawnCandidates (s .«position_bits») (stream s 7 c′ (3 * 256)))

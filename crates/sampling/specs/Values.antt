@@ -1,0 +1,26 @@
+-- The candidate rule for values below a range. Candidates come in stream order. One that is in range is taken. One that is out
+-- of range is skipped if at least as many candidates remain after it as values are still needed; otherwise the range is
+-- subtracted from it and it is taken.
+-- Assumes nothing: these are definitions.
+use mathlib.Core.Bool.{Bool, true, false, cond, _||_}
+use mathlib.Core.List.{List, [], _∷_}
+use Prim.Native.Nat.{ℕ, zero, suc, _-_}
+use lib.Dec.{ltb}
+use lib.ListN.{length}
+use Rattle.sampling.specs.Candidates.{emit}
+
+-- whether candidate c is taken, with `left` candidates after it and `need` values still needed
+abbrev pub takesValue : ℕ → ℕ → ℕ → ℕ → Bool
+takesValue range need left c = ltb c range || ltb left need
+
+-- what is taken of it
+abbrev pub reduced : ℕ → ℕ → ℕ
+reduced range c = cond (ltb c range) c (c - range)
+
+-- the values taken of the candidates, where `need` are needed
+unfoldable pub values : ℕ → ℕ → List ℕ → List ℕ
+values range need [] = []
+values range zero (c ∷ cs) = []
+values range (suc need) (c ∷ cs) =
+    emit (takesValue range (suc need) (length cs) c) (reduced range c)
+    (values range (cond (takesValue range (suc need) (length cs) c) need (suc need)) cs)

@@ -1,0 +1,1 @@
+// The candidate rules: see specs/.

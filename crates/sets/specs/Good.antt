@@ -1,0 +1,45 @@
+-- What a set's numbers have to satisfy: the conditions on which the ring, rounding, packing, sampling and demand 3 rest.
+-- Every theorem over a set is proved from these alone; a set is added by proving them of its numbers.
+-- Assumes nothing: these are definitions.
+use mathlib.Core.Path.{_≡_}
+use Prim.Native.Nat.{ℕ, _+_, _*_, _-_, _%_, _^_, _≤_, _<_}
+use Rattle.sets.specs.declared.Numbers.{Numbers}
+
+pub record Good (s : Numbers) : Type 0 where
+  -- sampling: the low bits of a candidate are a position, each position below n, and a position fits two bytes
+  pub n-power : s .n ≡ 2 ^ s .«position_bits»
+  pub position-fits : s .«position_bits» ≤ 16
+  -- records: at least one t_i; their number is small enough for lengths in bytes
+  pub k-some : 0 < s .k
+  pub k-few : s .k ≤ 255
+  -- rounding: q is odd, so that the centred range is symmetric
+  pub q-odd : s .q % 2 ≡ 1
+  -- ring, rounding: sums of two residues fit 32 bits, products 62
+  pub q-small : s .q < 2 ^ 31
+  -- ring: a signed byte is less than q in size
+  pub q-large : 128 ≤ s .q
+  -- sampling, packing: every residue fits its width, and a candidate less q is a residue
+  pub t-fits : s .q ≤ 2 ^ s .«t_bits»
+  pub t-once : 2 ^ s .«t_bits» ≤ 2 * s .q
+  -- packing: one value at least a byte and at most a word; a polynomial fills whole bytes
+  pub t-byte : 8 ≤ s .«t_bits»
+  pub t-word : s .«t_bits» ≤ 32
+  pub t-whole : s .«t_bits» * s .n % 8 ≡ 0
+  -- sampling: y + b fits its width, and a candidate less 2b + 1 is at most 2b
+  pub y-fits : 2 * s .b + 1 ≤ 2 ^ s .«z_bits»
+  pub y-once : 2 ^ s .«z_bits» ≤ 2 * (2 * s .b + 1)
+  -- ring: y and z are less than q in size
+  pub b-small : s .b ≤ s .q
+  -- packing: z from −(b − s) to b − s is in the range of its width
+  pub z-some : s .s ≤ s .b
+  pub z-fits : s .b - s .s < 2 ^ (s .«z_bits» - 1)
+  pub z-byte : 8 ≤ s .«z_bits»
+  pub z-word : s .«z_bits» ≤ 32
+  pub z-whole : s .«z_bits» * s .n % 8 ≡ 0
+  -- sampling: h positions can be drawn, from 256 candidates
+  pub h-inside : s .h ≤ s .n
+  pub h-drawn : s .h ≤ 256
+  -- rounding: the bounds fit beside a residue, and a step of 2^d has a half
+  pub e-fits : s .e < 2 ^ 31
+  pub d-some : 0 < s .d
+  pub d-fits : s .d < 31

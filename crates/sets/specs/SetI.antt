@@ -1,0 +1,52 @@
+-- Set I, qTESLA-p-I, and that its numbers are good. Assumes nothing.
+use mathlib.Core.Path.{refl}
+use lib.Dec.{lit<, lit≤}
+use Rattle.sets.specs.declared.Numbers.{Numbers}
+use Rattle.sets.specs.Good.{Good}
+
+abbrev pub setI : Numbers
+setI =
+    record {
+      n = 1024;
+      k = 4;
+      q = 343576577;
+      h = 25;
+      e = 554;
+      s = 554;
+      b = 524287;
+      d = 22;
+      «t_bits» = 29;
+      «z_bits» = 20;
+      «position_bits» = 10;
+      digit = 1;
+    }
+
+pub setI-good : Good setI
+setI-good =
+    record {
+      n-power = refl;
+      position-fits = lit≤ tt;
+      k-some = lit< tt;
+      k-few = lit≤ tt;
+      q-odd = refl;
+      q-small = lit< tt;
+      q-large = lit≤ tt;
+      t-fits = lit≤ tt;
+      t-once = lit≤ tt;
+      t-byte = lit≤ tt;
+      t-word = lit≤ tt;
+      t-whole = refl;
+      y-fits = lit≤ tt;
+      y-once = lit≤ tt;
+      b-small = lit≤ tt;
+      z-some = lit≤ tt;
+      z-fits = lit< tt;
+      z-byte = lit≤ tt;
+      z-word = lit≤ tt;
+      z-whole = refl;
+      h-inside = lit≤ tt;
+      h-drawn = lit≤ tt;
+      e-fits = lit< tt;
+      d-some = lit< tt;
+      d-fits = lit< tt;
+    }

@@ -1,0 +1,80 @@
+// The numbers of a set of parameters, and set I, qTESLA-p-I, where they are written.
+ghost use mathlib.Core.Path.{_≡_};
+ghost use Rattle.sets.specs.SetI.{setI};
+
+// What a part of the scheme takes from its set.
+pub struct Numbers {
+    // coefficients of a polynomial
+    pub n: usize,
+    // polynomials a_i, e_i, t_i
+    pub k: usize,
+    // the modulus
+    pub q: u32,
+    // entries of c that are +1 or −1
+    pub h: usize,
+    // the bound of checkE
+    pub e: u32,
+    // the bound of checkS
+    pub s: u32,
+    // y runs from −b to b
+    pub b: u32,
+    // a low part is taken by 2^d
+    pub d: u32,
+    // bits of a coefficient of t and of a
+    pub t_bits: u32,
+    // bits of a coefficient of z and of y
+    pub z_bits: u32,
+    // bits of a position
+    pub position_bits: u32,
+    // the first digit of the second byte of each mark
+    pub digit: u8,
+}
+
+// qTESLA-p-I.
+pub struct SetI {}
+
+impl SetI {
+    pub const N: usize = 1024;
+
+    pub const K: usize = 4;
+
+    pub const Q: u32 = 343576577;
+
+    pub const H: usize = 25;
+
+    pub const E: u32 = 554;
+
+    pub const S: u32 = 554;
+
+    pub const B: u32 = 524287;
+
+    pub const D: u32 = 22;
+
+    pub const T_BITS: u32 = 29;
+
+    pub const Z_BITS: u32 = 20;
+
+    pub const POSITION_BITS: u32 = 10;
+
+    pub const DIGIT: u8 = 1;
+
+    // The numbers as one value.
+    pub fn numbers() -> Numbers
+        ensures { λ r. ⌜ r ≡ setI ⌝ }
+    {
+        Numbers {
+            n: SetI::N,
+            k: SetI::K,
+            q: SetI::Q,
+            h: SetI::H,
+            e: SetI::E,
+            s: SetI::S,
+            b: SetI::B,
+            d: SetI::D,
+            t_bits: SetI::T_BITS,
+            z_bits: SetI::Z_BITS,
+            position_bits: SetI::POSITION_BITS,
+            digit: SetI::DIGIT,
+        }
+    }
+}

@@ -1,0 +1,3 @@
+pub mod Attempt
+pub mod Search
+pub mod Sign

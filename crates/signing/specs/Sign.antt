@@ -1,0 +1,68 @@
+-- Signing: the tests of its inputs, then the search. What comes back: the number, the counter, and the signature record.
+-- Assumes nothing: these are definitions.
+use mathlib.Core.Bool.{Bool, _&&_}
+use mathlib.Core.List.{List, [], _∷_}
+use Prim.Native.Nat.{ℕ, zero, suc}
+use lib.Dec.{eqb, leb}
+use lib.ListN.{length}
+use Rattle.whole.specs.Refusal.{Test, _orElse_, answer}
+use Rattle.ring.specs.Largest.{sumPasses}
+use Rattle.sets.specs.declared.Numbers.{Numbers}
+use Rattle.sets.specs.Limits.{messageLimit, budgetLimit}
+use Rattle.sampling.specs.Streams.{messageDigest, randOf}
+use Rattle.records.specs.Layout.{marked, seedBytes, secretBytes, signatureBytes}
+use Rattle.records.specs.Secret.{sOf, allE, secretSeedA, secretSeedY, secretG, inByteRange}
+use Rattle.records.specs.Signature.{signatureRecord}
+use Rattle.keys.specs.Key.{eachEPasses}
+use Rattle.signing.specs.Attempt.{Key, attempt}
+use Rattle.signing.specs.Search.{Found, found, none, overflow, search}
+
+-- the key that a secret record holds
+unfoldable pub keyOf : Numbers → List ℕ → Key
+keyOf set secret =
+    record { s = sOf set secret; e = allE set secret; seedA = secretSeedA set secret; seedY = secretSeedY set secret; g = secretG set secret }
+
+unfoldable pub signTests : Numbers → List ℕ → ℕ → ℕ → ℕ → ℕ → List Test
+signTests set secret messageLength rLength budget signatureLength =
+    ((eqb (length secret) (secretBytes set) && (eqb rLength seedBytes && eqb signatureLength (signatureBytes set))) orElse 1)
+    ∷ (marked set 2 secret orElse 2)
+    ∷ (leb messageLength messageLimit orElse 3)
+    ∷ ((leb 1 budget && leb budget budgetLimit) orElse 4)
+    ∷ ((inByteRange (sOf set secret) && inByteRange (allE set secret)) orElse 5)
+    ∷ (sumPasses (set .h) (set .s) (sOf set secret) orElse 6)
+    ∷ (eachEPasses set (allE set secret) orElse 7)
+    ∷ []
+
+-- the search that signing makes
+unfoldable pub signSearch : Numbers → List ℕ → List ℕ → List ℕ → ℕ → Found
+signSearch set secret message r budget =
+    search (attempt set (keyOf set secret) (messageDigest set message) (randOf set (secretSeedY set secret) r (messageDigest set message))) budget
+
+-- what a search gives back
+abbrev pub foundNumber : Found → ℕ
+foundNumber (found counter z c′) = 0
+foundNumber none = 8
+foundNumber overflow = 10
+
+abbrev pub foundCounter : Found → ℕ
+foundCounter (found counter z c′) = counter
+foundCounter none = 0
+foundCounter overflow = 0
+
+abbrev pub foundSignature : Numbers → Found → List ℕ → List ℕ
+foundSignature set (found counter z c′) old = signatureRecord set z c′
+foundSignature set none old = old
+foundSignature set overflow old = old
+
+-- what signing gives back, where `refusal` is the number of its tests
+abbrev pub signNumber : ℕ → Found → ℕ
+signNumber zero f = foundNumber f
+signNumber (suc refusal) f = suc refusal
+
+abbrev pub signCounter : ℕ → Found → ℕ
+signCounter zero f = foundCounter f
+signCounter (suc refusal) f = 0
+
+abbrev pub signSignature : Numbers → ℕ → Found → List ℕ → List ℕ
+signSignature set zero f old = foundSignature set f old
+signSignature set (suc refusal) f old = old

@@ -1,0 +1,12 @@
+pub mod Int
+pub mod Residue
+pub mod Sum
+pub mod Parts
+pub mod Table
+pub mod Fill
+pub mod Below
+pub mod Bits
+pub mod Twos
+pub mod Refusal
+pub mod RefusalLaws
+pub mod Determined

@@ -1,0 +1,113 @@
+-- Laws of tests in a row and of the answer that they give.
+--     answer-pass, answer-fail      a first test that passes, and one that does not
+--     answer-first, answer-rest     where the answer is 0 the first test passes, and so do the others
+--     after-done, after-refused     an output after the answer 0, and after any other
+--     every-pass, every-fail, every-end     a loop that tests the elements from the front
+--     every-at, every-all           what `every` says of each place
+--     every-append, every-joined    lists in a row
+--     both, both-first, both-second, not-first, not-second      && of two tests
+-- Assumes nothing.
+use mathlib.Core.Path.{_≡_, refl, sym, ap, _∙_}
+use mathlib.Core.Bool.{Bool, true, false, _&&_, true≢false, and-assoc, and-false}
+use mathlib.Core.List.{List, [], _∷_, _++_}
+use Prim.Native.Nat.{ℕ, zero, suc, _+_, _≤_, _<_}
+use native.Mathlib.Nat.{not-suc-le-zero, le-of-suc-le-suc, zero-lt-suc}
+use native.Mathlib.Numerals.{add-one}
+use native.Mathlib.Omega.{arith}
+use lib.ListN.{length, getD, drop, drop-of-length-le}
+use lib.Seq.{drop-cons}
+use Rattle.whole.specs.Table.{joined}
+use Rattle.whole.specs.Refusal.{Test, _orElse_, answer, after, every, eachBelow}
+
+-- ---- && of two tests
+
+pub both : {a b : Bool} → a ≡ true → b ≡ true → (a && b) ≡ true
+both e f = rw (e, f)
+
+pub both-first : (a b : Bool) → (a && b) ≡ true → a ≡ true
+both-first true b e = refl
+both-first false b e = e
+
+pub both-second : (a b : Bool) → (a && b) ≡ true → b ≡ true
+both-second true b e = e
+both-second false b e = absurd (true≢false (sym e))
+
+pub not-first : {a : Bool} (b : Bool) → a ≡ false → (a && b) ≡ false
+not-first b e = rw e
+
+pub not-second : (a : Bool) {b : Bool} → b ≡ false → (a && b) ≡ false
+not-second a e = rw e (and-false a)
+
+-- ---- the answer
+
+pub answer-pass : {passes : Bool} (number : ℕ) (ts : List Test) → passes ≡ true → answer ((passes orElse number) ∷ ts) ≡ answer ts
+unfolding answer
+answer-pass number ts e = rw e
+
+pub answer-fail : {passes : Bool} (number : ℕ) (ts : List Test) → passes ≡ false → answer ((passes orElse number) ∷ ts) ≡ number
+unfolding answer
+answer-fail number ts e = rw e
+
+pub answer-none : answer [] ≡ 0
+unfolding answer
+answer-none = refl
+
+-- with a number other than 0
+pub answer-first : (passes : Bool) (number : ℕ) (ts : List Test) → answer ((passes orElse suc number) ∷ ts) ≡ 0 → passes ≡ true
+unfolding answer
+answer-first true number ts e = refl
+answer-first false number ts e = absurd (omega arith)
+
+pub answer-rest : (passes : Bool) (number : ℕ) (ts : List Test) → answer ((passes orElse suc number) ∷ ts) ≡ 0 → answer ts ≡ 0
+unfolding answer
+answer-rest true number ts e = e
+answer-rest false number ts e = absurd (omega arith)
+
+module _ {A : Type 0} where
+  pub after-done : {number : ℕ} (new old : A) → number ≡ 0 → after number new old ≡ new
+  unfolding after
+  after-done new old e = rw e
+
+  pub after-refused : {number : ℕ} (m : ℕ) (new old : A) → number ≡ suc m → after number new old ≡ old
+  unfolding after
+  after-refused m new old e = rw e
+
+  -- ---- every element
+
+  pub every-at : (p : A → Bool) (xs : List A) (i : ℕ) (d : A) → every p xs ≡ true → i < length xs → p (getD xs i d) ≡ true
+  unfolding every
+  every-at p [] i d e l = absurd (not-suc-le-zero l)
+  every-at p (x ∷ xs) zero d e l = both-first (p x) (every p xs) e
+  every-at p (x ∷ xs) (suc i) d e l = every-at p xs i d (both-second (p x) (every p xs) e) (le-of-suc-le-suc l)
+
+  pub every-all : (p : A → Bool) (xs : List A) (d : A) → ((i : ℕ) → i < length xs → p (getD xs i d) ≡ true) → every p xs ≡ true
+  unfolding every
+  every-all p [] d h = refl
+  every-all p (x ∷ xs) d h =
+      both (h 0 (zero-lt-suc (length xs))) (every-all p xs d (λ i l. h (suc i) (Prim.Native.Nat.suc-le-suc l)))
+
+  pub every-append : (p : A → Bool) (xs ys : List A) → every p (xs ++ ys) ≡ (every p xs && every p ys)
+  unfolding every
+  every-append p [] ys = refl
+  every-append p (x ∷ xs) ys = rw (every-append p xs ys) (sym (and-assoc (p x) (every p xs) (every p ys)))
+
+  pub every-joined : (p : A → Bool) (k : ℕ) (f : ℕ → List A) → every p (joined k f) ≡ eachBelow k (λ i. every p (f i))
+  unfolding joined eachBelow every
+  every-joined p zero f = refl
+  every-joined p (suc k) f = every-append p (joined k f) (f k) ∙ ap (λ (b : Bool). b && every p (f k)) (every-joined p k f)
+
+  -- a loop over the elements: those before i pass
+  module _ (p : A → Bool) (xs : List A) (i : ℕ) (d : A) where
+    split : i < length xs → every p (drop i xs) ≡ (p (getD xs i d) && every p (drop (i + 1) xs))
+    unfolding every
+    split l = rw (add-one, drop-cons xs i d l)
+
+    pub every-pass : i < length xs → p (getD xs i d) ≡ true → every p (drop i xs) ≡ every p (drop (i + 1) xs)
+    every-pass l e = split l ∙ rw e
+
+    pub every-fail : i < length xs → p (getD xs i d) ≡ false → every p (drop i xs) ≡ false
+    every-fail l e = split l ∙ rw e
+
+    pub every-end : length xs ≤ i → every p (drop i xs) ≡ true
+    unfolding every
+    every-end l = rw (drop-of-length-le xs l)

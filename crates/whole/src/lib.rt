@@ -1,0 +1,1 @@
+// Laws alone: `specs/` has them, and every other crate takes them from there.

@@ -1,0 +1,188 @@
+"""The envelope and the program at set I."""
+
+import random
+
+from checks.damage import (Fault, by, changed, expect_faults, other_marks, set_to,
+                           with_bit_flipped, with_byte, with_field, wrong_lengths,
+                           wrong_output_lengths)
+from checks.keys_and_signatures import SEEDS
+from checks.samples import sample, sign_whole
+from envelope import envelope_length, open_envelope, read_envelope, write_envelope
+from program import line
+from records import write_signature
+from sets import SET_I
+
+
+def lengths(expect):
+    for length in (0, 1, 100, 32768):
+        expect(f"{length} bytes", envelope_length(SET_I, length), 2600 + length)
+
+
+def round_trips(expect):
+    rng = random.Random(14)
+    for length in (0, 1, 255, 256, 32768):
+        team, roster = rng.randrange(65536), rng.randbytes(length)
+        z = [rng.randint(-523733, 523733) for _ in range(1024)]
+        signature = write_signature(SET_I, z, rng.randbytes(32), 2594)[1]
+        number, envelope = write_envelope(SET_I, team, roster, signature, 2600 + length)
+        expect(f"{length} bytes written", (number, len(envelope)), (0, 2600 + length))
+        expect(f"{length} bytes spelled", envelope,
+               b"\x51\x14" + bytes([team % 256, team // 256, length % 256, length // 256])
+               + roster + signature)
+        expect(f"{length} bytes read", read_envelope(SET_I, envelope), (0, team, 6, length))
+
+
+def opened(expect):
+    for seed in SEEDS:
+        made = sample(seed=seed)
+        number, team, start, length = open_envelope(SET_I, made.public, made.envelope)
+        expect("opened", (number, team), (0, made.team))
+        expect("roster", made.envelope[start:start + length], made.message)
+    made, other = sample(), sample(seed=1)
+    expect("another key", open_envelope(SET_I, other.public, made.envelope), refused(11))
+    renamed = with_byte(made.envelope, 2, made.envelope[2] ^ 1)
+    expect("the team is not signed", open_envelope(SET_I, made.public, renamed),
+           (0, made.team ^ 1, 6, len(made.message)))
+
+
+def longest(expect):
+    made, roster = sample(), random.Random(15).randbytes(32769)
+    for length in (0, 1, 32768):
+        signature = sign_whole(SET_I, made.secret, roster[:length], made.r)[2]
+        envelope = write_envelope(SET_I, 7, roster[:length], signature, 2600 + length)[1]
+        expect(f"{length} bytes opened", open_envelope(SET_I, made.public, envelope),
+               (0, 7, 6, length))
+        expect(f"{length} bytes, the line", line(SET_I, made.public + envelope),
+               f"ROSTER team=7 bytes={length} ok\n")
+    over = b"\x51\x14\x07\x00\x01\x80" + roster + made.signature
+    expect("32769 bytes opened", open_envelope(SET_I, made.public, over), refused(3))
+    expect("32769 bytes read", read_envelope(SET_I, over), refused(3))
+    expect("32769 bytes written",
+           write_envelope(SET_I, 7, roster, made.signature, 2600 + 32769), (3, None))
+    expect("32769 bytes written, other output",
+           write_envelope(SET_I, 7, roster, made.signature, 2600 + 32768), (1, None))
+
+
+def refused(number):
+    return number, 0, 0, 0
+
+
+def write_refusals(expect):
+    made = sample()
+    inputs = dict(team=made.team, roster=made.message, signature=made.signature,
+                  envelope_len=len(made.envelope))
+
+    def lengthen(inputs):
+        inputs["roster"] = bytes(32769)
+        inputs["envelope_len"] = 2600 + 32769
+    faults = (
+        wrong_lengths("signature") + wrong_output_lengths("envelope_len")
+        + [Fault("roster of another length", 1, by("roster", lambda roster: roster + b"abcd"))]
+        + other_marks("signature", b"\x51\x13")
+        + [Fault("long roster", 3, lengthen),
+           Fault("first z", 9, by("signature", lambda s: with_field(s, 2, 20, 0, 523734))),
+           Fault("last z", 9,
+                 by("signature", lambda s: with_field(s, 2, 20, 1023, -523734)))])
+    expect_faults(expect, "write envelope", inputs, faults,
+                  lambda inputs: write_envelope(SET_I, **inputs),
+                  lambda number: (number, None))
+
+
+def in_signature(change):
+    """The same change to the signature record at the envelope's end."""
+    def within(envelope):
+        return envelope[:-2594] + change(envelope[-2594:])
+    return by("envelope", within)
+
+
+def form_faults():
+    """The four tests that opening and reading begin with, in their order."""
+    def named(length):
+        return by("envelope", lambda e: e[:4] + length.to_bytes(2, "little") + e[6:])
+    return (
+        [Fault("empty", 1, set_to("envelope", b"")),
+         Fault("five bytes", 1, by("envelope", lambda e: e[:5]))]
+        + other_marks("envelope", b"\x51\x14")
+        + [Fault("L = 32769", 3, named(32769)), Fault("L = 65535", 3, named(65535)),
+           Fault("L = 32768", 1, named(32768)), Fault("L = 0", 1, named(0)),
+           Fault("a head alone", 1, by("envelope", lambda e: e[:6])),
+           Fault("a byte short", 1, by("envelope", lambda e: e[:-1])),
+           Fault("bytes after it", 1, by("envelope", lambda e: e + b"\0\0"))])
+
+
+SIGNATURE_MARKS = [
+    Fault(f"signature mark {mark}", 2,
+          in_signature(lambda s, mark=mark: bytes.fromhex(mark) + s[2:]))
+    for mark in ("5114", "5313", "5193")]
+
+SIGNATURE_Z = [
+    Fault(f"z = {value} at {at}", 9,
+          in_signature(lambda s, at=at, value=value: with_field(s, 2, 20, at, value)))
+    for at, value in ((0, 523734), (1023, -523734), (500, -524288))]
+
+
+def read_refusals(expect):
+    inputs = dict(envelope=sample().envelope)
+    expect_faults(expect, "read envelope", inputs,
+                  form_faults() + SIGNATURE_MARKS + SIGNATURE_Z,
+                  lambda inputs: read_envelope(SET_I, **inputs), refused)
+
+
+def open_faults():
+    return (
+        form_faults() + wrong_lengths("public") + other_marks("public", b"\x51\x11")
+        + SIGNATURE_MARKS
+        + [Fault("t = q", 5, by("public", lambda p: with_field(p, 2, 29, 0, SET_I.q))),
+           Fault("last t", 5, by("public", lambda p: with_field(p, 2, 29, 4095, SET_I.q)))]
+        + SIGNATURE_Z
+        + [Fault("c'", 11, in_signature(lambda s: with_bit_flipped(s, 2593))),
+           Fault("roster", 11, by("envelope", lambda e: with_bit_flipped(e, 6))),
+           Fault("seed_a", 11, by("public", lambda p: with_bit_flipped(p, 14850)))])
+
+
+def open_refusals(expect):
+    made = sample()
+    inputs = dict(public=made.public, envelope=made.envelope)
+    expect_faults(expect, "open envelope", inputs, open_faults(),
+                  lambda inputs: open_envelope(SET_I, **inputs), refused)
+    expect("no public record", open_envelope(SET_I, b"", made.envelope), refused(1))
+    expect("nothing at all", open_envelope(SET_I, b"", b""), refused(1))
+
+
+def program(expect):
+    made = sample()
+    expect("empty input", line(SET_I, b""), "REFUSED 1\n")
+    for length in (1, 2, 14881, 14882, 14887, 14888, len(made.public + made.envelope) - 1):
+        expect(f"{length} bytes", line(SET_I, (made.public + made.envelope)[:length]),
+               "REFUSED 1\n")
+    expect("one byte more", line(SET_I, made.public + made.envelope + b"\n"), "REFUSED 1\n")
+    expect("accepted", line(SET_I, made.public + made.envelope),
+           f"ROSTER team={made.team} bytes={len(made.message)} ok\n")
+    expect("long input, wrong mark", line(SET_I, made.public + bytes(100000)), "REFUSED 2\n")
+    expect("long input, wrong L",
+           line(SET_I, made.public + b"\x51\x14\0\0\xff\xff" + bytes(100000)), "REFUSED 3\n")
+    expect("long input", line(SET_I, made.public + made.envelope + bytes(100000)),
+           "REFUSED 1\n")
+
+
+def program_refusals(expect):
+    """Every fault that does not move the envelope in the input."""
+    made, seen = sample(), set()
+    inputs = dict(public=made.public, envelope=made.envelope)
+    moving = {fault.name for fault in wrong_lengths("public")}
+    for fault in open_faults():
+        if fault.name in moving:
+            continue
+        damaged = changed(inputs, fault)
+        expect(fault.name, line(SET_I, damaged["public"] + damaged["envelope"]),
+               f"REFUSED {fault.number}\n")
+        seen.add(fault.number)
+    expect("numbers reached", seen, {1, 2, 3, 5, 9, 11})
+
+
+GROUPS = [("lengths of envelopes", lengths), ("round trips of envelopes", round_trips),
+          ("envelopes opened", opened), ("rosters of the longest length", longest),
+          ("refusals of writing an envelope", write_refusals),
+          ("refusals of reading an envelope", read_refusals),
+          ("refusals of opening", open_refusals), ("the program", program),
+          ("refusals of the program", program_refusals)]
