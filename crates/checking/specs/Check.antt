@@ -16,7 +16,8 @@ use Rattle.records.specs.Layout.{marked, stretch, tBytes, publicBytes, signatur
 use Rattle.records.specs.Public.{tOf, allT, seedAOf, tInRange}
 use Rattle.records.specs.Signature.{zOf, challengeOf, zInRange}
 use Rattle.sampling.specs.Positions.{polynomialOf}
-use Rattle.signing.specs.Attempt.{highsOf, fitsByte}
+use Rattle.rounding.specs.Tests.{fitsByte}
+use Rattle.signing.specs.Attempt.{highsOf}
 
 -- w_(i + 1) = a_(i + 1) z − t_(i + 1) c, from 0 to q − 1
 unfoldable pub checkW : Numbers → List ℕ → (ℕ → List ℕ) → List ℤ → List ℕ → ℕ → List ℕ

@@ -5,7 +5,7 @@ use mathlib.Core.Bool.{Bool}
 use mathlib.Core.Path.{_≡_}
 use Prim.Native.Nat.{ℕ, _+_, _-_, _/_, _^_, _<_}
 use lib.Dec.{ltb, leb}
-use lib.IntN.{ℤ, natAbs}
+use lib.IntN.{ℤ, pos, negsuc, natAbs}
 use Rattle.rounding.specs.Centred.{centred}
 use Rattle.rounding.specs.Parts.{low}
 
@@ -20,6 +20,11 @@ sizePasses q E w = ltb (natAbs (centred q w) + E) (q / 2)
 -- |z|, not reduced, is at most the bound (B − S)
 unfoldable pub zPasses : ℕ → ℤ → Bool
 zPasses bound z = leb (natAbs z) bound
+
+-- a number fits a signed byte: from −128 to 127
+abbrev pub fitsByte : ℤ → Bool
+fitsByte (pos a) = ltb a 128
+fitsByte (negsuc a) = ltb a 128
 
 -- What the code below asks of a residue v by q and of d
 pub record Rounds (q d v : ℕ) : Type 0 where

@@ -2,3 +2,9 @@ pub mod Candidates
 pub mod Values
 pub mod Positions
 pub mod Streams
+pub mod CandidatesLaws
+pub mod ValuesLaws
+pub mod FreeLaws
+pub mod PositionsLaws
+pub mod SparseLaws
+pub mod StreamsLaws

@@ -8,13 +8,14 @@ use lib.ListN.{take, drop}
 use Rattle.shake.specs.Shake256.{shake256}
 use Rattle.whole.specs.Twos.{twos}
 use Rattle.sets.specs.declared.Numbers.{Numbers}
+use Rattle.sets.specs.Marks.{streamMark}
 use Rattle.sampling.specs.Candidates.{candidates}
 use Rattle.sampling.specs.Values.{values}
 use Rattle.sampling.specs.Positions.{Drawn, positions, drawnCandidates}
 
 -- the mark of stream j, 1 to 7: 53 11 to 53 17 in set I
 abbrev pub mark : Numbers → ℕ → List ℕ
-mark s j = 0x53 ∷ (16 * s .digit + j) ∷ []
+mark s j = streamMark (s .digit) j
 
 -- the first n bytes of stream j
 abbrev pub stream : Numbers → ℕ → List ℕ → ℕ → List ℕ

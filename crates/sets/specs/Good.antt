@@ -2,7 +2,7 @@
 -- Every theorem over a set is proved from these alone; a set is added by proving them of its numbers.
 -- Assumes nothing: these are definitions.
 use mathlib.Core.Path.{_≡_}
-use Prim.Native.Nat.{ℕ, _+_, _*_, _-_, _%_, _^_, _≤_, _<_}
+use Prim.Native.Nat.{_+_, _*_, _-_, _%_, _^_, _≤_, _<_}
 use Rattle.sets.specs.declared.Numbers.{Numbers}
 
 pub record Good (s : Numbers) : Type 0 where
@@ -43,3 +43,5 @@ pub record Good (s : Numbers) : Type 0 where
   pub e-fits : s .e < 2 ^ 31
   pub d-some : 0 < s .d
   pub d-fits : s .d < 31
+  -- marks: the digit is one of a hexadecimal number's
+  pub digit-fits : s .digit < 16

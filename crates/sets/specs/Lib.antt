@@ -1,3 +1,4 @@
 pub mod Good
 pub mod Limits
+pub mod Marks
 pub mod SetI

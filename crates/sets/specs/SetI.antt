@@ -49,4 +49,5 @@ setI-good =
       e-fits = lit< tt;
       d-some = lit< tt;
       d-fits = lit< tt;
+      digit-fits = lit< tt;
     }

@@ -1,5 +1,8 @@
 // The numbers of a set of parameters, and set I, qTESLA-p-I, where they are written.
+use shake::Sponge;
 ghost use mathlib.Core.Path.{_≡_};
+ghost use Prim.Native.Nat.{_<_};
+ghost use Rattle.sets.specs.Marks.{fresh};
 ghost use Rattle.sets.specs.SetI.{setI};
 
 // What a part of the scheme takes from its set.
@@ -28,6 +31,15 @@ pub struct Numbers {
     pub position_bits: u32,
     // the first digit of the second byte of each mark
     pub digit: u8,
+}
+
+// The fresh sponge of stream j of the set with this digit: it has absorbed the stream's mark.
+pub fn fresh_state(digit: u8, j: u8) -> Sponge
+    requires { ⌜ (digit < 16) × (j < 16) ⌝ }
+    ensures { λ r. ⌜ r ≡ fresh digit j ⌝ }
+{
+    let mark = [0x53, 16 * digit + j];
+    Sponge::blank().absorb(&mark)
 }
 
 // qTESLA-p-I.
@@ -76,5 +88,56 @@ impl SetI {
             position_bits: SetI::POSITION_BITS,
             digit: SetI::DIGIT,
         }
+    }
+
+    // The fresh sponge of each stream.
+
+    // a_1..a_k from seed_a
+    pub fn fresh_a() -> Sponge
+        ensures { λ r. ⌜ r ≡ fresh 1 1 ⌝ }
+    {
+        fresh_state(SetI::DIGIT, 1)
+    }
+
+    // y from rand and the counter
+    pub fn fresh_y() -> Sponge
+        ensures { λ r. ⌜ r ≡ fresh 1 2 ⌝ }
+    {
+        fresh_state(SetI::DIGIT, 2)
+    }
+
+    // rand
+    pub fn fresh_rand() -> Sponge
+        ensures { λ r. ⌜ r ≡ fresh 1 3 ⌝ }
+    {
+        fresh_state(SetI::DIGIT, 3)
+    }
+
+    // G of the message
+    pub fn fresh_message() -> Sponge
+        ensures { λ r. ⌜ r ≡ fresh 1 4 ⌝ }
+    {
+        fresh_state(SetI::DIGIT, 4)
+    }
+
+    // g of the packed t_1..t_k
+    pub fn fresh_key() -> Sponge
+        ensures { λ r. ⌜ r ≡ fresh 1 5 ⌝ }
+    {
+        fresh_state(SetI::DIGIT, 5)
+    }
+
+    // c' of the high parts
+    pub fn fresh_challenge() -> Sponge
+        ensures { λ r. ⌜ r ≡ fresh 1 6 ⌝ }
+    {
+        fresh_state(SetI::DIGIT, 6)
+    }
+
+    // Enc of c'
+    pub fn fresh_enc() -> Sponge
+        ensures { λ r. ⌜ r ≡ fresh 1 7 ⌝ }
+    {
+        fresh_state(SetI::DIGIT, 7)
     }
 }

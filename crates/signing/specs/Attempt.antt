@@ -9,7 +9,7 @@ use lib.ListN.{length}
 use Rattle.whole.specs.Table.{table, joined}
 use Rattle.whole.specs.Refusal.{every, eachBelow}
 use Rattle.rounding.specs.Parts.{high}
-use Rattle.rounding.specs.Tests.{lowPasses, sizePasses}
+use Rattle.rounding.specs.Tests.{lowPasses, sizePasses, fitsByte}
 use Rattle.ring.specs.Product.{Poly, mul}
 use Rattle.ring.specs.Lists.{naturals, integers, signedBytes, residues}
 use Rattle.ring.specs.Sparse.{sparse}
@@ -36,11 +36,6 @@ pub data Outcome : Type 0 where
 -- the high parts of the k polynomials v_1..v_k, i then coefficient
 unfoldable pub highsOf : Numbers → (ℕ → List ℕ) → List ℤ
 highsOf set v = joined (set .k) (λ i. map (λ x. high (set .q) (set .d) (pos x)) (v i))
-
--- a number fits a signed byte: from −128 to 127
-abbrev pub fitsByte : ℤ → Bool
-fitsByte (pos a) = ltb a 128
-fitsByte (negsuc a) = ltb a 128
 
 -- v_(i + 1) = a_(i + 1) y, from 0 to q − 1
 unfoldable pub vOf : Numbers → List ℕ → List ℤ → ℕ → List ℕ

@@ -1,3 +1,4 @@
 pub mod Attempt
 pub mod Search
+pub mod SearchLaws
 pub mod Sign

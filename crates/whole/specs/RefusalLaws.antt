@@ -7,17 +7,21 @@
 --     every-append, every-joined    lists in a row
 --     both, both-first, both-second, not-first, not-second      && of two tests
 -- Assumes nothing.
-use mathlib.Core.Path.{_≡_, refl, sym, ap, _∙_}
-use mathlib.Core.Bool.{Bool, true, false, _&&_, true≢false, and-assoc, and-false}
-use mathlib.Core.List.{List, [], _∷_, _++_}
-use Prim.Native.Nat.{ℕ, zero, suc, _+_, _≤_, _<_}
+use lib.Dec.{leb}
+use borrow.Author.Tests.{eq-eqb, leb-true}
+use Rattle.whole.specs.Int.{lt-or-le}
+use mathlib.Core.Logic.{⊎-elim}
+use mathlib.Core.Path.{_≡_, refl, sym, ap, _∙_, subst}
+use mathlib.Core.Bool.{Bool, true, false, _&&_, true≢false, and-assoc, and-false, cond}
+use mathlib.Core.List.{List, [], _∷_, _++_, map}
+use Prim.Native.Nat.{ℕ, zero, suc, _+_, _≤_, _<_, zero-le}
 use native.Mathlib.Nat.{not-suc-le-zero, le-of-suc-le-suc, zero-lt-suc}
 use native.Mathlib.Numerals.{add-one}
 use native.Mathlib.Omega.{arith}
 use lib.ListN.{length, getD, drop, drop-of-length-le}
 use lib.Seq.{drop-cons}
 use Rattle.whole.specs.Table.{joined}
-use Rattle.whole.specs.Refusal.{Test, _orElse_, answer, after, every, eachBelow}
+use Rattle.whole.specs.Refusal.{Test, _orElse_, answer, after, every, eachBelow, sameBytes}
 
 -- ---- && of two tests
 
@@ -111,3 +115,48 @@ module _ {A : Type 0} where
     pub every-end : length xs ≤ i → every p (drop i xs) ≡ true
     unfolding every
     every-end l = rw (drop-of-length-le xs l)
+
+-- ---- every index below k
+
+pub each-at : (k : ℕ) (p : ℕ → Bool) (i : ℕ) → eachBelow k p ≡ true → i < k → p i ≡ true
+unfolding eachBelow
+each-at zero p i e l = absurd (omega arith)
+each-at (suc k) p i e l =
+    ⊎-elim (λ lt. each-at k p i (both-first (eachBelow k p) (p k) e) lt)
+    (λ le. subst (λ (j : ℕ). p j ≡ true) (same le) (both-second (eachBelow k p) (p k) e)) (lt-or-le i k)
+  where
+    same : k ≤ i → k ≡ i
+    same le = omega arith
+
+pub each-all : (k : ℕ) (p : ℕ → Bool) → ((i : ℕ) → i < k → p i ≡ true) → eachBelow k p ≡ true
+unfolding eachBelow
+each-all zero p h = refl
+each-all (suc k) p h = both (each-all k p (λ i l. h i (omega arith))) (h k (omega arith))
+
+-- ---- equal lists
+
+pub same-refl-bytes : (xs : List ℕ) → sameBytes xs xs ≡ true
+unfolding sameBytes
+same-refl-bytes [] = refl
+same-refl-bytes (x ∷ xs) = both (eq-eqb x x refl) (same-refl-bytes xs)
+
+-- an answer is 0 or one of the tests' numbers, so at most the largest of them
+pub answer-most : (m : ℕ) (ts : List Test) → every (λ (t : Test). leb (t .number) m) ts ≡ true → answer ts ≤ m
+unfolding answer every
+answer-most m [] e = zero-le
+answer-most m (t ∷ ts) e = go (answer-most m ts (both-second (leb (t .number) m) (every (λ (u : Test). leb (u .number) m) ts) e)) (t .passes)
+  where
+    go : answer ts ≤ m → (b : Bool) → cond b (answer ts) (t .number) ≤ m
+    go rest true = rest
+    go rest false = leb-true (t .number) m (both-first (leb (t .number) m) (every (λ (u : Test). leb (u .number) m) ts) e)
+
+pub every-map : {A B : Type 0} (p : B → Bool) (f : A → B) (xs : List A) → every p (map f xs) ≡ every (λ x. p (f x)) xs
+unfolding every
+every-map p f [] = refl
+every-map p f (x ∷ xs) = ap (λ (b : Bool). p (f x) && b) (every-map p f xs)
+
+-- a test that always passes
+pub every-always : {A : Type 0} (p : A → Bool) (xs : List A) → ((x : A) → p x ≡ true) → every p xs ≡ true
+unfolding every
+every-always p [] h = refl
+every-always p (x ∷ xs) h = both (h x) (every-always p xs h)

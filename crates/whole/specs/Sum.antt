@@ -100,6 +100,16 @@ total-split a (suc b) f = rw (add-suc a b, total-split a b f) (omega arith)
 pub total-reverse : (n : ℕ) (f : ℕ → ℕ) → total n (λ i. f (n - suc i)) ≡ total n f
 total-reverse n f = ap up (sym (sum-total n (λ i. f (n - suc i))) ∙ sum-reverse n (λ i. pos (f i)) ∙ sum-total n f)
 
+pub total-add : (n : ℕ) (f g : ℕ → ℕ) → total n (λ i. f i + g i) ≡ total n f + total n g
+unfolding total
+total-add zero f g = refl
+total-add (suc n) f g = rw (total-add n f g) (omega arith)
+
+pub total-zero : (n : ℕ) → total n (λ i. 0) ≡ 0
+unfolding total
+total-zero zero = refl
+total-zero (suc n) = rw (total-zero n)
+
 pub total-le : (n : ℕ) (f g : ℕ → ℕ) → ((i : ℕ) → i < n → f i ≤ g i) → total n f ≤ total n g
 unfolding total
 total-le zero f g h = le-refl 0

@@ -1,9 +1,9 @@
 -- The list f 0, .., f (n − 1), and lists in a row.
 -- Assumes nothing.
 use mathlib.Core.Path.{_≡_, refl, sym, ap, ap₂, _∙_}
-use mathlib.Core.List.{List, [], _∷_, _++_, map}
+use mathlib.Core.List.{List, [], _∷_, _++_, map, append-nil, append-assoc}
 use Prim.Native.Nat.{ℕ, zero, suc, _+_, _≤_, _<_, _*_}
-use native.Mathlib.Nat.{add-zero, zero-add, le-of-suc-le-suc, not-suc-le-zero, le-refl, zero-mul, suc-mul, mul-suc, mul-comm, mul-le-mul-left, le-of-eq}
+use native.Mathlib.Nat.{add-zero, zero-add, le-of-suc-le-suc, not-suc-le-zero, le-refl, zero-mul, suc-mul, mul-suc, mul-comm, mul-le-mul-left, le-of-eq, add-suc}
 use native.Mathlib.Omega.{arith}
 use lib.ListN.{length, getD, drop, length-append, take}
 use lib.Seq.{ext-getD, take-all, take-add}
@@ -62,6 +62,14 @@ module _ {A : Type 0} where
 
   pub table-suc : (n : ℕ) (f : ℕ → A) → table (suc n) f ≡ table n f ++ (f n ∷ [])
   table-suc n f = row-last n 0 f ∙ ap (λ (k : ℕ). table n f ++ (f k ∷ [])) (zero-add n)
+
+  -- the first m and the n after them
+  pub table-split : (m n : ℕ) (f : ℕ → A) → table (m + n) f ≡ table m f ++ table n (λ j. f (m + j))
+  unfolding row
+  table-split m zero f = rw (add-zero m) (sym (append-nil (table m f)))
+  table-split m (suc n) f =
+      rw (add-suc m n, table-suc (m + n) f, table-split m n f, append-assoc (table m f) (table n (λ j. f (m + j))) (f (m + n) ∷ []))
+      (ap (λ (l : List A). table m f ++ l) (sym (table-suc n (λ j. f (m + j)))))
 
   -- ---- lists in a row: f 0, then f 1, .., then f (k − 1)
 

@@ -1,0 +1,334 @@
+-- Demand 3, for every good set: if key making was accepted and signing found a signature, checking accepts it.
+-- Assumes nothing.
+use mathlib.Core.Path.{_≡_, refl, sym, ap, ap₂, subst, _∙_}
+use mathlib.Core.Bool.{Bool, true, false, cond, _&&_}
+use mathlib.Core.List.{List, [], _∷_, map}
+use Prim.Native.Nat.{ℕ, zero, suc, _+_, _*_, _-_, _≤_, _<_}
+use native.Mathlib.Omega.{arith}
+use lib.Dec.{leb}
+use lib.ListN.{length, getD, length-map, List·getD-map}
+use lib.Seq.{ext-getD}
+use lib.IntN.{ℤ, pos, natAbs, _+ℤ_, _-ℤ_}
+use borrow.Author.Tests.{eqb-true, eq-eqb, leb-true, le-leb}
+use Rattle.whole.specs.Int.{int, minus-is, sum-is}
+use Rattle.whole.specs.Residue.{residue, residue-same, Same, same-eq, same-sym, same-trans, same-add, same-refl}
+use Rattle.whole.specs.Table.{table, table-ext, length-table, getD-table, joined, joined-ext, joined-part, joined-length, map-table}
+use Rattle.whole.specs.Below.{Below, below-joined}
+use Rattle.whole.specs.Refusal.{answer, every, eachBelow, sameBytes}
+use Rattle.whole.specs.RefusalLaws.{both, both-first, both-second, answer-pass, answer-none, answer-first, answer-rest, every-at, each-at, same-refl-bytes}
+use Rattle.rounding.specs.Parts.{high}
+use Rattle.rounding.specs.Tests.{lowPasses, sizePasses, fitsByte}
+use Rattle.ring.specs.Product.{mul}
+use Rattle.ring.specs.Lists.{naturals, integers, signedBytes, residues, length-residues, residues-below}
+use Rattle.ring.specs.Largest.{largest, sizes, sumPasses}
+use Rattle.ring.specs.Bound.{AtMost, bytes-bound}
+use Rattle.sets.specs.declared.Numbers.{Numbers}
+use Rattle.sets.specs.Good.{Good}
+use Rattle.sets.specs.Limits.{messageLimit}
+use Rattle.sampling.specs.Positions.{Drawn, polynomialOf}
+use Rattle.sampling.specs.StreamsLaws.{shake-length, encOf-small, encOf-total}
+use Rattle.sampling.specs.Streams.{aOf, yOf, encOf, challenge, messageDigest, keyDigest, randOf}
+use Rattle.records.specs.Layout.{marked, stretch, polynomial, seedBytes, tBytes, publicBytes, signatureBytes, secretBytes}
+use Rattle.records.specs.Public.{packedT, publicRecord, tOf, allT, seedAOf, tInRange}
+use Rattle.records.specs.Secret.{secretRecord, eOf}
+use Rattle.records.specs.Signature.{signatureRecord, zOf, challengeOf, zInRange}
+use Rattle.records.specs.PublicLaws.{polynomial-length, below-tInRange, publicRecord-length, public-marked, public-packed, public-seedA, public-t, public-allT}
+use Rattle.records.specs.SignatureLaws.{signatureRecord-length, signature-marked, signature-challenge, signature-z}
+use Rattle.keys.specs.Key.{keyT, allKeyT, publicOf, secretOf, eachEPasses}
+use Rattle.signing.specs.Attempt.{Key, Outcome, passes, fails, overflows, highsOf, vOf, zFrom, wOf, wPasses, attemptPasses, answered, tried, attempt}
+use Rattle.checking.specs.Check.{checkW, checkHighs, publicG, checkTests}
+use Rattle.demands.specs.Alike.{same-w, alike}
+
+-- ---- what a passing attempt says
+
+-- an attempt that passes: its high parts fit, c' is their hash, its tests pass, and z is y + s c
+pub record Passing (set : Numbers) (key : Key) (digest rand : List ℕ) (counter : ℕ) (z : List ℤ) (c′ : List ℕ) : Type 0 where
+  pub fits : every fitsByte (highsOf set (vOf set (key .seedA) (yOf set rand counter))) ≡ true
+  pub hash : challenge set (highsOf set (vOf set (key .seedA) (yOf set rand counter))) digest (key .g) ≡ c′
+  pub tests : attemptPasses set key (yOf set rand counter) (vOf set (key .seedA) (yOf set rand counter)) (encOf set c′) ≡ true
+  pub is : zFrom set (key .s) (yOf set rand counter) (encOf set c′) ≡ z
+
+inner : (set : Numbers) (key : Key) (digest rand : List ℕ) (counter : ℕ) (z : List ℤ) (c′ d : List ℕ) (b : Bool)
+    → every fitsByte (highsOf set (vOf set (key .seedA) (yOf set rand counter))) ≡ true
+    → challenge set (highsOf set (vOf set (key .seedA) (yOf set rand counter))) digest (key .g) ≡ d
+    → attemptPasses set key (yOf set rand counter) (vOf set (key .seedA) (yOf set rand counter)) (encOf set d) ≡ b
+    → cond b (passes (zFrom set (key .s) (yOf set rand counter) (encOf set d)) d) fails ≡ passes z c′
+    → Passing set key digest rand counter z c′
+inner set key digest rand counter z c′ d true f h t e =
+    let same : d ≡ c′ = cc in
+    let is : zFrom set (key .s) (yOf set rand counter) (encOf set d) ≡ z = cc in
+    record {
+      fits = f;
+      hash = h ∙ same;
+      tests = subst (λ (x : List ℕ). attemptPasses set key (yOf set rand counter) (vOf set (key .seedA) (yOf set rand counter)) (encOf set x) ≡ true) same t;
+      is = subst (λ (x : List ℕ). zFrom set (key .s) (yOf set rand counter) (encOf set x) ≡ z) same is;
+    }
+inner set key digest rand counter z c′ d false f h t e = absurd (let x : _≡_ {A = ℕ} 0 1 = cc in omega arith)
+
+outer : (set : Numbers) (key : Key) (digest rand : List ℕ) (counter : ℕ) (z : List ℤ) (c′ : List ℕ) (b : Bool)
+    → every fitsByte (highsOf set (vOf set (key .seedA) (yOf set rand counter))) ≡ b
+    → cond b (answered set key (yOf set rand counter) (vOf set (key .seedA) (yOf set rand counter)) (challenge set (highsOf set (vOf set (key .seedA) (yOf set rand counter))) digest (key .g))) overflows ≡ passes z c′
+    → Passing set key digest rand counter z c′
+unfolding answered
+outer set key digest rand counter z c′ true f e =
+    inner set key digest rand counter z c′ _ _ f refl refl e
+outer set key digest rand counter z c′ false f e = absurd (let x : _≡_ {A = ℕ} 0 1 = cc in omega arith)
+
+pub passing : (set : Numbers) (key : Key) (digest rand : List ℕ) (counter : ℕ) (z : List ℤ) (c′ : List ℕ)
+    → attempt set key digest rand counter ≡ passes z c′ → Passing set key digest rand counter z c′
+unfolding attempt tried
+passing set key digest rand counter z c′ e = outer set key digest rand counter z c′ _ refl e
+
+-- ---- lengths
+
+pub vOf-length : (set : Numbers) (seedA : List ℕ) (y : List ℤ) (i : ℕ) → length (vOf set seedA y i) ≡ set .n
+unfolding vOf
+vOf-length set seedA y i = length-table (set .n) _
+
+pub wOf-length : (set : Numbers) (e : List ℕ) (v : ℕ → List ℕ) (c : List Drawn) (i : ℕ) → length (wOf set e v c i) ≡ set .n
+unfolding wOf
+wOf-length set e v c i = length-table (set .n) _
+
+pub zFrom-length : (set : Numbers) (s : List ℕ) (y : List ℤ) (c : List Drawn) → length (zFrom set s y c) ≡ set .n
+unfolding zFrom
+zFrom-length set s y c = length-table (set .n) _
+
+pub challenge-length : (set : Numbers) (highs : List ℤ) (digest g : List ℕ) → length (challenge set highs digest g) ≡ seedBytes
+unfolding challenge
+challenge-length set highs digest g = shake-length _ 32
+
+-- the two halves of an attempt's tests
+attempt-z : (set : Numbers) (key : Key) (y : List ℤ) (v : ℕ → List ℕ) (c : List Drawn) → attemptPasses set key y v c ≡ true → zInRange set (zFrom set (key .s) y c) ≡ true
+unfolding attemptPasses
+attempt-z set key y v c e = both-first (zInRange set (zFrom set (key .s) y c)) (eachBelow (set .k) (λ i. wPasses set (wOf set (key .e) v c i))) e
+
+attempt-w : (set : Numbers) (key : Key) (y : List ℤ) (v : ℕ → List ℕ) (c : List Drawn) → attemptPasses set key y v c ≡ true → eachBelow (set .k) (λ i. wPasses set (wOf set (key .e) v c i)) ≡ true
+unfolding attemptPasses
+attempt-w set key y v c e = both-second (zInRange set (zFrom set (key .s) y c)) (eachBelow (set .k) (λ i. wPasses set (wOf set (key .e) v c i))) e
+
+pub made-marked : (set : Numbers) (s e seedA : List ℕ) → marked set 1 (publicOf set s e seedA) ≡ true
+unfolding publicOf
+made-marked set s e seedA = public-marked set (allKeyT set s e seedA) seedA
+
+-- f cannot tell two lists apart
+map-alike : {A B : Type 0} (f : A → B) (n : ℕ) (xs ys : List A) (d : A) → length xs ≡ n → length ys ≡ n → ((j : ℕ) → j < n → f (getD xs j d) ≡ f (getD ys j d)) → map f xs ≡ map f ys
+map-alike {B = B} f n xs ys d e g h =
+    ext-getD (f d) (map f xs) (map f ys) (length-map xs f ∙ e ∙ sym (length-map ys f ∙ g))
+    (λ j l. List·getD-map f xs j d ∙ h j (omega (arith, length-map xs f)) ∙ sym (List·getD-map f ys j d))
+
+-- ---- the key that key making made
+
+module _ (set : Numbers) (good : Good set) (s e seedA seedY : List ℕ) where
+  -- t_1..t_k, and what the public record holds of them
+  abbrev pub madeT : List ℕ
+  madeT = allKeyT set s e seedA
+
+  abbrev pub madeKey : Key
+  madeKey = record { s = s; e = e; seedA = seedA; seedY = seedY; g = keyDigest set (packedT set madeT) }
+
+  keyT-length : (i : ℕ) → length (keyT set s e seedA i) ≡ set .n
+  unfolding keyT
+  keyT-length i = length-table (set .n) _
+
+  q-some : 0 < set .q
+  q-some = omega (arith, good .q-large)
+
+  pub madeT-length : length madeT ≡ set .k * set .n
+  unfolding allKeyT
+  madeT-length = joined-length (set .k) (set .n) (keyT set s e seedA) (λ i l. keyT-length i)
+
+  pub madeT-below : Below (set .q) madeT
+  unfolding allKeyT keyT
+  madeT-below = below-joined (set .q) (set .k) (keyT set s e seedA) (λ i l. residues-below (set .q) (set .n) _ q-some)
+
+  made-t : (i : ℕ) → i < set .k → tOf set (publicOf set s e seedA) i ≡ keyT set s e seedA i
+  unfolding publicOf allKeyT
+  made-t i l =
+      public-t set madeT seedA madeT-length good madeT-below i l
+      ∙ joined-part (set .k) (set .n) i (keyT set s e seedA) (λ j m. keyT-length j) l
+
+  -- what the public record reads back as
+  pub made-length : length seedA ≡ seedBytes → length (publicOf set s e seedA) ≡ publicBytes set
+  unfolding publicOf
+  made-length h = publicRecord-length set madeT seedA madeT-length h
+
+  pub made-allT : allT set (publicOf set s e seedA) ≡ madeT
+  unfolding publicOf
+  made-allT = public-allT set madeT seedA madeT-length good madeT-below
+
+  pub made-seedA : length seedA ≡ seedBytes → seedAOf set (publicOf set s e seedA) ≡ seedA
+  unfolding publicOf
+  made-seedA h = public-seedA set madeT seedA madeT-length h
+
+  pub made-g : publicG set (publicOf set s e seedA) ≡ keyDigest set (packedT set madeT)
+  unfolding publicOf publicG
+  made-g = ap (keyDigest set) (public-packed set madeT seedA madeT-length)
+
+  -- ---- the receiver's high parts are the signer's
+
+  module _ (e-long : length e ≡ set .k * set .n) (checkE : eachEPasses set e ≡ true) (y : List ℤ) (c′ : List ℕ)
+      (few : AtMost (set .n) (set .h) (polynomialOf (encOf set c′)))
+      (passed : eachBelow (set .k) (λ i. wPasses set (wOf set e (vOf set seedA y) (encOf set c′) i)) ≡ true) where
+    -- |e_i c| is at most E
+    small : (i j : ℕ) → i < set .k → j < set .n → natAbs (mul (set .n) (signedBytes (eOf set e i)) (polynomialOf (encOf set c′)) j) ≤ set .e
+    unfolding eachEPasses sumPasses
+    small i j l m =
+        omega (arith, bytes-bound (set .n) (set .h) (eOf set e i) (polynomialOf (encOf set c′)) j (polynomial-length (set .n) (set .k) i e e-long l) m few, passes-E)
+      where
+        passes-E : largest (set .h) (sizes (eOf set e i)) ≤ set .e
+        passes-E = leb-true (largest (set .h) (sizes (eOf set e i))) (set .e) (each-at (set .k) (λ i. sumPasses (set .h) (set .e) (eOf set e i)) i checkE l)
+
+    one-coefficient : (i j : ℕ) → i < set .k → j < set .n
+        → high (set .q) (set .d) (pos (getD (wOf set e (vOf set seedA y) (encOf set c′) i) j 0)) ≡ high (set .q) (set .d) (pos (getD (vOf set seedA y i) j 0))
+    unfolding wPasses wOf
+    one-coefficient i j l m =
+        alike (set .q) (set .d) (set .e) (getD (vOf set seedA y i) j 0) (getD w j 0) x q-some
+        (every-at lows w j 0 (both-first (every lows w) (every sized w) both-pass) long)
+        (every-at sized w j 0 (both-second (every lows w) (every sized w) both-pass) long)
+        moved (small i j l m)
+      where
+        w : List ℕ
+        w = wOf set e (vOf set seedA y) (encOf set c′) i
+
+        x : ℤ
+        x = mul (set .n) (signedBytes (eOf set e i)) (polynomialOf (encOf set c′)) j
+
+        lows : ℕ → Bool
+        lows x = lowPasses (set .q) (set .d) (set .e) (pos x)
+
+        sized : ℕ → Bool
+        sized x = sizePasses (set .q) (set .e) (pos x)
+
+        v : ℤ
+        v = pos (getD (vOf set seedA y i) j 0)
+
+        apart : v ≡ (v -ℤ x) +ℤ x
+        apart = omega (int, minus-is v x, sum-is (v -ℤ x) x)
+
+        w-is : getD w j 0 ≡ residue (set .q) (v -ℤ x)
+        w-is = getD-table (set .n) j (λ j. residue (set .q) (naturals (vOf set seedA y i) j -ℤ mul (set .n) (signedBytes (eOf set e i)) (polynomialOf (encOf set c′)) j)) 0 m
+
+        both-pass : wPasses set w ≡ true
+        both-pass = each-at (set .k) _ i passed l
+
+        long : j < length w
+        long = omega (arith, m, length-table (set .n) (λ j. residue (set .q) (naturals (vOf set seedA y i) j -ℤ mul (set .n) (signedBytes (eOf set e i)) (polynomialOf (encOf set c′)) j)))
+
+        moved : Same (set .q) (pos (getD (vOf set seedA y i) j 0)) (pos (getD w j 0) +ℤ x)
+        moved =
+            same-trans (same-eq (set .q) apart)
+            (same-add (same-trans (residue-same (set .q) (v -ℤ x) q-some) (same-eq (set .q) (ap pos (sym w-is)))) (same-refl (set .q) x))
+
+    -- t_i is read from the record as key making made it
+    same-t : (i : ℕ) → i < set .k
+        → checkW set seedA (tOf set (publicOf set s e seedA)) (zFrom set s y (encOf set c′)) c′ i ≡ checkW set seedA (keyT set s e seedA) (zFrom set s y (encOf set c′)) c′ i
+    unfolding checkW
+    same-t i l =
+        ap (λ (t : List ℕ). residues (set .q) (set .n) (λ j. mul (set .n) (naturals (aOf set seedA i)) (integers (zFrom set s y (encOf set c′))) j -ℤ mul (set .n) (naturals t) (polynomialOf (encOf set c′)) j))
+        (made-t i l)
+
+    alike-lists : (i : ℕ) → i < set .k
+        → map (λ x. high (set .q) (set .d) (pos x)) (wOf set e (vOf set seedA y) (encOf set c′) i) ≡ map (λ x. high (set .q) (set .d) (pos x)) (vOf set seedA y i)
+    alike-lists i l =
+        map-alike (λ x. high (set .q) (set .d) (pos x)) (set .n) (wOf set e (vOf set seedA y) (encOf set c′) i) (vOf set seedA y i) 0
+        (w-length i) (v-length i) (λ j m. one-coefficient i j l m)
+      where
+        w-length : (i : ℕ) → length (wOf set e (vOf set seedA y) (encOf set c′) i) ≡ set .n
+        w-length i = wOf-length set e (vOf set seedA y) (encOf set c′) i
+
+        v-length : (i : ℕ) → length (vOf set seedA y i) ≡ set .n
+        v-length i = vOf-length set seedA y i
+
+    pub same-highs : checkHighs set seedA (tOf set (publicOf set s e seedA)) (zFrom set s y (encOf set c′)) c′ ≡ highsOf set (vOf set seedA y)
+    unfolding checkHighs highsOf
+    same-highs = joined-ext (set .k) _ _ each
+      where
+        W : ℕ → List ℕ
+        W i = wOf set e (vOf set seedA y) (encOf set c′) i
+
+        receiver : (i : ℕ) → i < set .k → checkW set seedA (tOf set (publicOf set s e seedA)) (zFrom set s y (encOf set c′)) c′ i ≡ W i
+        receiver i l = same-t i l ∙ same-w set q-some s e seedA y c′ i
+
+        each : (i : ℕ) → i < set .k → map (λ x. high (set .q) (set .d) (pos x)) (checkW set seedA (tOf set (publicOf set s e seedA)) (zFrom set s y (encOf set c′)) c′ i) ≡ map (λ x. high (set .q) (set .d) (pos x)) (vOf set seedA y i)
+        each i l = ap (map (λ x. high (set .q) (set .d) (pos x))) (receiver i l) ∙ alike-lists i l
+
+-- ---- demand 3
+
+module _ (set : Numbers) (good : Good set) (s e seedA seedY message : List ℕ) where
+  -- the facts of a key that was accepted, and of a message that was
+  module _ (e-long : length e ≡ set .k * set .n) (seedA-long : length seedA ≡ seedBytes) (checkE : eachEPasses set e ≡ true)
+      (short : length message ≤ messageLimit) where
+    -- an attempt that passes gives a signature that checking accepts
+    pub accepted : (rand : List ℕ) (counter : ℕ) (z : List ℤ) (c′ : List ℕ)
+        → attempt set (madeKey set good s e seedA seedY) (messageDigest set message) rand counter ≡ passes z c′
+        → answer (checkTests set (publicOf set s e seedA) message (signatureRecord set z c′)) ≡ 0
+    unfolding checkTests
+    accepted rand counter z c′ a =
+        answer-pass 1 _ (both (eq-eqb _ _ public-long) (eq-eqb _ _ (signatureRecord-length set z c′ z-long c-long)))
+        ∙ answer-pass 2 _ (both public-mark (signature-marked set z c′))
+        ∙ answer-pass 3 _ (le-leb (length message) messageLimit short)
+        ∙ answer-pass 5 _ (below-tInRange set (allT set public) (rw public-t-is (madeT-below set good s e seedA seedY)))
+        ∙ answer-pass 9 _ (ap (zInRange set) z-back ∙ z-passes)
+        ∙ answer-pass 10 _ (ap (every fitsByte) highs-are ∙ p .fits)
+        ∙ answer-pass 11 _ (ap₂ sameBytes hash-is c-back ∙ same-refl-bytes c′)
+        ∙ answer-none
+      where
+        key : Key
+        key = madeKey set good s e seedA seedY
+
+        y : List ℤ
+        y = yOf set rand counter
+
+        t : List ℕ
+        t = madeT set good s e seedA seedY
+
+        public : List ℕ
+        public = publicOf set s e seedA
+
+        signature : List ℕ
+        signature = signatureRecord set z c′
+
+        p : Passing set key (messageDigest set message) rand counter z c′
+        p = passing set key (messageDigest set message) rand counter z c′ a
+
+        t-long : length t ≡ set .k * set .n
+        t-long = madeT-length set good s e seedA seedY
+
+        z-long : length z ≡ set .n
+        z-long = ap length (sym (p .is)) ∙ zFrom-length set s y (encOf set c′)
+
+        c-long : length c′ ≡ seedBytes
+        c-long = ap length (sym (p .hash)) ∙ challenge-length set (highsOf set (vOf set seedA y)) (messageDigest set message) (key .g)
+
+        z-passes : zInRange set z ≡ true
+        z-passes = ap (zInRange set) (sym (p .is)) ∙ attempt-z set key y (vOf set seedA y) (encOf set c′) (p .tests)
+
+        w-passes : eachBelow (set .k) (λ i. wPasses set (wOf set e (vOf set seedA y) (encOf set c′) i)) ≡ true
+        w-passes = attempt-w set key y (vOf set seedA y) (encOf set c′) (p .tests)
+
+        public-long : length public ≡ publicBytes set
+        public-long = made-length set good s e seedA seedY seedA-long
+
+        public-mark : marked set 1 public ≡ true
+        public-mark = made-marked set s e seedA
+
+        public-t-is : allT set public ≡ t
+        public-t-is = made-allT set good s e seedA seedY
+
+        z-back : zOf set signature ≡ z
+        z-back = signature-z set z c′ z-long good z-passes
+
+        c-back : challengeOf set signature ≡ c′
+        c-back = signature-challenge set z c′ z-long c-long
+
+        few : AtMost (set .n) (set .h) (polynomialOf (encOf set c′))
+        few = record { small = λ i l. encOf-small set good c′ i; few = encOf-total set good c′ }
+
+        highs-are : checkHighs set (seedAOf set public) (tOf set public) (zOf set signature) (challengeOf set signature) ≡ highsOf set (vOf set seedA y)
+        highs-are =
+            ap (λ (x : List ℕ). checkHighs set x (tOf set public) (zOf set signature) (challengeOf set signature)) (made-seedA set good s e seedA seedY seedA-long)
+            ∙ ap₂ (λ (x : List ℤ) (d : List ℕ). checkHighs set seedA (tOf set public) x d) (z-back ∙ sym (p .is)) c-back
+            ∙ same-highs set good s e seedA seedY e-long checkE y c′ few w-passes
+
+        hash-is : challenge set (checkHighs set (seedAOf set public) (tOf set public) (zOf set signature) (challengeOf set signature)) (messageDigest set message) (publicG set public) ≡ c′
+        hash-is = ap₂ (λ (h : List ℤ) (g : List ℕ). challenge set h (messageDigest set message) g) highs-are (made-g set good s e seedA seedY) ∙ p .hash

@@ -1,0 +1,30 @@
+-- `sets::fresh_state` meets its contract. Assumes nothing.
+use mathlib.Core.Path.{_∙_}
+use borrow.Author.Needs.{needs}
+use Rattle.sets.specs.Marks.{fresh}
+use Rattle.sets.proofs.fresh_state.Statement.{statement}
+use Rattle.sets.proofs.fresh_state.Tie as tie
+
+mul-t4 : tie.Need-mul-t4
+mul-t4 c = search needs
+
+add-t5 : tie.Need-add-t5
+add-t5 c = search needs
+
+blank-requires : tie.Need-blank-requires
+blank-requires c κs = search needs
+
+slice-aggregate-absorb : tie.Need-slice-aggregate-absorb
+slice-aggregate-absorb c = search needs
+
+absorb-requires : tie.Need-absorb-requires
+absorb-requires c κs = search needs
+
+returns : tie.Need-returns
+unfolding fresh
+returns c = c .absorb .ensures ∙ rw (c .before .before .blank .ensures)
+
+pub fresh-state-spec : {M : Type 1} → statement M
+fresh-state-spec =
+    tie.close
+    (tie.spec mul-t4 add-t5 blank-requires slice-aggregate-absorb absorb-requires returns)

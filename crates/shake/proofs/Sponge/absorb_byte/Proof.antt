@@ -1,0 +1,30 @@
+-- `Sponge::absorb_byte` meets its contract: one step of absorbing, from what an absorb acts on.
+-- Assumes nothing.
+use mathlib.Core.List.{[], _∷_}
+use borrow.Author.Needs.{needs}
+use native.Mathlib.Omega.{arith}
+use Rattle.shake.proofs.Steps.{absorbing-none, absorbing-byte, absorbing-all, absorbed-is}
+use Rattle.shake.proofs.Sponge.absorb_byte.Statement.{statement}
+use Rattle.shake.proofs.Sponge.absorb_byte.Tie as tie
+
+absorbable-requires : tie.Need-absorbable-requires
+absorbable-requires c κs = search needs
+
+xor-at-requires : tie.Need-xor-at-requires
+xor-at-requires c κs = absorbing-none _ (c .before .before .absorbable .ensures) [] .near
+
+pass-requires : tie.Need-pass-requires
+pass-requires c κs = absorbing-none _ (c .before .before .before .before .absorbable .ensures) [] .near
+
+returns : tie.Need-returns
+returns c =
+    let start = c .before .before .before .before .before in
+    let b = start .before .args .b in
+    absorbed-is _ (start .absorbable .ensures) (b ∷ [])
+    (absorbing-all
+    (absorbing-byte (absorbing-none _ (start .absorbable .ensures) (b ∷ [])) (c .before .before .xor-at .ensures) (c .pass .ensures)
+    (omega arith) (omega arith) (omega arith) (omega arith))
+    (omega arith))
+
+pub absorb-byte-spec : {M : Type 1} → statement M
+absorb-byte-spec = tie.close (tie.spec absorbable-requires xor-at-requires pass-requires returns)
