@@ -29,7 +29,7 @@ use Rattle.sampling.specs.StreamsLaws.{shake-length}
 use Rattle.records.specs.Layout.{seedBytes, publicBytes, secretBytes}
 use Rattle.records.specs.Public.{packedT}
 use Rattle.records.specs.Secret.{sOf, allE, secretSeedA, secretSeedY, secretG, inByteRange}
-use Rattle.records.specs.SecretLaws.{SecretLengths, secret-s, secret-e, secret-seedA, secret-seedY, secret-g}
+use Rattle.records.specs.SecretLaws.{SecretLengths, secret-s, secret-e, secret-seedA, secret-g}
 use Rattle.records.specs.Signature.{signatureRecord}
 use Rattle.keys.specs.Key.{allKeyT, publicOf, secretOf, eachEPasses, makeKeyTests}
 use Rattle.signing.specs.Attempt.{Key, Outcome, passes, fails, overflows, attempt, tried, answered, attemptPasses, highsOf, vOf, zFrom}
@@ -97,7 +97,6 @@ module _ (set : Numbers) (good : Good set) (s e seedA seedY : List ℕ) (a : Acc
         s = secret-s set s e seedA seedY g secret-lengths i;
         e = secret-e set s e seedA seedY g secret-lengths i;
         seedA = secret-seedA set s e seedA seedY g secret-lengths i;
-        seedY = secret-seedY set s e seedA seedY g secret-lengths i;
         g = secret-g set s e seedA seedY g secret-lengths i;
       }
     where

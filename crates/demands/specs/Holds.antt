@@ -124,7 +124,7 @@ module _ (set : Numbers) (good : Good set) (s e seedA seedY : List ℕ) where
   madeT = allKeyT set s e seedA
 
   abbrev pub madeKey : Key
-  madeKey = record { s = s; e = e; seedA = seedA; seedY = seedY; g = keyDigest set (packedT set madeT) }
+  madeKey = record { s = s; e = e; seedA = seedA; g = keyDigest set (packedT set madeT) }
 
   keyT-length : (i : ℕ) → length (keyT set s e seedA i) ≡ set .n
   unfolding keyT

@@ -19,12 +19,11 @@ use Rattle.sampling.specs.Streams.{aOf, yOf, challenge, encOf}
 use Rattle.records.specs.Secret.{eOf}
 use Rattle.records.specs.Signature.{zInRange}
 
--- what signing takes from the secret record
+-- what an attempt takes from the secret record
 pub record Key : Type 0 where
   pub s : List ℕ
   pub e : List ℕ
   pub seedA : List ℕ
-  pub seedY : List ℕ
   pub g : List ℕ
 
 -- an attempt passes with z and c', or fails, or meets a high part that does not fit a signed byte

@@ -20,7 +20,7 @@ use Rattle.signing.specs.Search.{Found, found, none, overflow, search}
 -- the key that a secret record holds
 unfoldable pub keyOf : Numbers → List ℕ → Key
 keyOf set secret =
-    record { s = sOf set secret; e = allE set secret; seedA = secretSeedA set secret; seedY = secretSeedY set secret; g = secretG set secret }
+    record { s = sOf set secret; e = allE set secret; seedA = secretSeedA set secret; g = secretG set secret }
 
 unfoldable pub signTests : Numbers → List ℕ → ℕ → ℕ → ℕ → ℕ → List Test
 signTests set secret messageLength rLength budget signatureLength =
