@@ -1,28 +1,27 @@
 -- Why a receiver rounds as the signer did. The receiver's w_i = a_i z − t_i c are the signer's w_i = v_i − e_i c, modulo q; and
 -- the signer's two tests on w_i keep every v_i = w_i + e_i c on the same side of each rounding edge.
 -- Assumes nothing.
-use mathlib.Core.Path.{_≡_, refl, sym, ap, ap₂, subst, _∙_}
-use mathlib.Core.Bool.{Bool, true, false}
-use mathlib.Core.List.{List, map}
-use Prim.Native.Nat.{ℕ, _+_, _*_, _-_, _/_, _^_, _≤_, _<_}
+use mathlib.Core.Path.{_≡_, refl, sym, ap, subst, _∙_}
+use mathlib.Core.Bool.{true}
+use mathlib.Core.List.{List}
+use Prim.Native.Nat.{ℕ, _+_, _-_, _^_, _≤_, _<_}
 use native.Mathlib.Omega.{arith}
-use lib.ListN.{length, getD}
-use lib.IntN.{ℤ, pos, negℤ, natAbs, _+ℤ_, _-ℤ_, _*ℤ_}
-use Rattle.whole.specs.Int.{int, sum-is, minus-is, as-difference, differences, difference-same}
+use lib.IntN.{ℤ, pos, natAbs, _+ℤ_, _-ℤ_}
+use Rattle.whole.specs.Int.{as-difference, differences, difference-same}
 use Rattle.whole.specs.Residue.{residue, residue-same, residue-eq, Same, same-refl, same-eq, same-sym, same-trans, same-add, same-minus, same-less}
-use Rattle.whole.specs.Table.{table, table-ext, getD-table, joined-ext, map-table}
-use Rattle.rounding.specs.Centred.{centred, Central, centred-central, centred-same, centred-self}
+use Rattle.whole.specs.Table.{table-ext, getD-table}
+use Rattle.rounding.specs.Centred.{centred, Central, centred-central, centred-same}
 use Rattle.rounding.specs.Parts.{low, high, low-eq, high-eq, rounds-alike}
 use Rattle.rounding.specs.Tests.{lowPasses, sizePasses}
 use borrow.Author.Tests.{ltb-true}
 use Rattle.ring.specs.Product.{Poly, mul, mul-ext, mul-add, add-mul, mul-assoc, mul-same}
-use Rattle.ring.specs.Lists.{naturals, integers, signedBytes, residues}
-use Rattle.sampling.specs.Positions.{Drawn, polynomialOf}
+use Rattle.ring.specs.Lists.{naturals, integers, signedBytes}
+use Rattle.sampling.specs.Positions.{polynomialOf}
 use Rattle.sampling.specs.Streams.{aOf, encOf}
 use Rattle.sets.specs.declared.Numbers.{Numbers}
 use Rattle.records.specs.Secret.{eOf}
 use Rattle.keys.specs.Key.{keyT}
-use Rattle.signing.specs.Attempt.{vOf, zFrom, wOf, highsOf}
+use Rattle.signing.specs.Attempt.{vOf, zFrom, wOf}
 use Rattle.checking.specs.Check.{checkW}
 
 -- ---- a (y + s c) − (a s + e) c is a y − e c

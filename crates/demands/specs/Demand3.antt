@@ -8,34 +8,34 @@
 -- Assumes nothing.
 use mathlib.Core.Path.{_≡_, refl, sym, ap, ap₂, subst, _∙_}
 use mathlib.Core.Bool.{Bool, true, false, cond, _&&_}
-use mathlib.Core.Logic.{_⊎_, inl, inr, _↔_}
-use mathlib.Core.List.{List, [], _∷_, map}
+use mathlib.Core.Logic.{_↔_}
+use mathlib.Core.List.{List, []}
 use Prim.Native.Nat.{ℕ, zero, suc, _+_, _*_, _/_, _^_, _≤_, _<_}
 use native.Mathlib.Omega.{arith}
-use lib.Dec.{eqb, leb, lit≤, lit<}
-use lib.ListN.{length, getD}
+use lib.Dec.{eqb, leb}
+use lib.ListN.{length}
 use lib.IntN.{ℤ, pos, negsuc, natAbs}
 use borrow.Author.Tests.{eqb-true, leb-true, lt-ltb}
-use Rattle.whole.specs.Refusal.{answer, every, eachBelow}
+use Rattle.whole.specs.Refusal.{answer, every}
 use Rattle.whole.specs.RefusalLaws.{both-first, both-second, answer-first, answer-rest, every-joined, every-map, every-always, each-all, answer-most}
 use Rattle.rounding.specs.Parts.{high, high-bound}
 use Rattle.rounding.specs.Tests.{fitsByte}
 use Rattle.sets.specs.declared.Numbers.{Numbers}
 use Rattle.sets.specs.Good.{Good}
 use Rattle.sets.specs.Limits.{messageLimit}
-use Rattle.sets.specs.SetI.{setI, setI-good}
+use Rattle.sets.specs.SetI.{setI}
 use Rattle.sampling.specs.Streams.{messageDigest, keyDigest, randOf, yOf, challenge, encOf}
 use Rattle.sampling.specs.StreamsLaws.{shake-length}
 use Rattle.records.specs.Layout.{seedBytes, publicBytes, secretBytes}
 use Rattle.records.specs.Public.{packedT}
-use Rattle.records.specs.Secret.{sOf, allE, secretSeedA, secretSeedY, secretG, inByteRange}
+use Rattle.records.specs.Secret.{secretSeedY}
 use Rattle.records.specs.SecretLaws.{SecretLengths, secret-s, secret-e, secret-seedA, secret-g}
 use Rattle.records.specs.Signature.{signatureRecord}
 use Rattle.keys.specs.Key.{allKeyT, publicOf, secretOf, eachEPasses, makeKeyTests}
 use Rattle.signing.specs.Attempt.{Key, Outcome, passes, fails, overflows, attempt, tried, answered, attemptPasses, highsOf, vOf, zFrom}
 use Rattle.signing.specs.Search.{Found, found, none, overflow, search}
 use Rattle.signing.specs.SearchLaws.{Stopped, found-smallest, none-fails, fails-none}
-use Rattle.signing.specs.Sign.{keyOf, signTests, signSearch, signNumber, signSignature, signCounter, foundNumber}
+use Rattle.signing.specs.Sign.{keyOf, signTests, signSearch, signNumber, signSignature, signCounter}
 use Rattle.checking.specs.Check.{checkTests}
 use Rattle.demands.specs.Holds.{madeKey, accepted}
 
@@ -90,7 +90,7 @@ module _ (set : Numbers) (good : Good set) (s e seedA seedY : List ℕ) (a : Acc
   secret-lengths =
       record { s-long = a .s-long; e-long = a .e-long; seedA-long = a .seedA-long; seedY-long = a .seedY-long; g-long = shake-length _ 40 }
 
-  same-key : keyOf set (secretOf set s e seedA seedY) ≡ madeKey set good s e seedA seedY
+  same-key : keyOf set (secretOf set s e seedA seedY) ≡ madeKey set good s e seedA
   unfolding keyOf secretOf
   same-key =
       λ i. record {
@@ -149,7 +149,7 @@ module _ (set : Numbers) (good : Good set) (s e seedA seedY message r : List ℕ
           → answer (checkTests set (publicOf set s e seedA) message (signSignature set tests result signature)) ≡ 0
       go f =
           ap (λ (x : List ℕ). answer (checkTests set (publicOf set s e seedA) message x)) (f .5)
-          ∙ accepted set good s e seedA seedY message (a .e-long) (a .seedA-long) (a .checkE) (short (f .3))
+          ∙ accepted set good s e seedA message (a .e-long) (a .seedA-long) (a .checkE) (short (f .3))
           (randOf set (secretSeedY set (secretOf set s e seedA seedY)) r (messageDigest set message)) (f .0) (f .1) (f .2)
           (ap (λ (k : Key). attempt set k (messageDigest set message) (randOf set (secretSeedY set (secretOf set s e seedA seedY)) r (messageDigest set message)) (f .0)) (sym (same-key set good s e seedA seedY a))
           ∙ found-smallest attempts budget 1 (f .0) (f .1) (f .2) (f .4) .here)

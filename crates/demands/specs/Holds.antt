@@ -1,25 +1,24 @@
 -- Demand 3, for every good set: if key making was accepted and signing found a signature, checking accepts it.
 -- Assumes nothing.
 use mathlib.Core.Path.{_≡_, refl, sym, ap, ap₂, subst, _∙_}
-use mathlib.Core.Bool.{Bool, true, false, cond, _&&_}
-use mathlib.Core.List.{List, [], _∷_, map}
-use Prim.Native.Nat.{ℕ, zero, suc, _+_, _*_, _-_, _≤_, _<_}
+use mathlib.Core.Bool.{Bool, true, false, cond}
+use mathlib.Core.List.{List, map}
+use Prim.Native.Nat.{ℕ, _+_, _*_, _≤_, _<_}
 use native.Mathlib.Omega.{arith}
-use lib.Dec.{leb}
 use lib.ListN.{length, getD, length-map, List·getD-map}
 use lib.Seq.{ext-getD}
 use lib.IntN.{ℤ, pos, natAbs, _+ℤ_, _-ℤ_}
-use borrow.Author.Tests.{eqb-true, eq-eqb, leb-true, le-leb}
+use borrow.Author.Tests.{eq-eqb, leb-true, le-leb}
 use Rattle.whole.specs.Int.{int, minus-is, sum-is}
-use Rattle.whole.specs.Residue.{residue, residue-same, Same, same-eq, same-sym, same-trans, same-add, same-refl}
-use Rattle.whole.specs.Table.{table, table-ext, length-table, getD-table, joined, joined-ext, joined-part, joined-length, map-table}
+use Rattle.whole.specs.Residue.{residue, residue-same, Same, same-eq, same-trans, same-add, same-refl}
+use Rattle.whole.specs.Table.{length-table, getD-table, joined-ext, joined-part, joined-length}
 use Rattle.whole.specs.Below.{Below, below-joined}
 use Rattle.whole.specs.Refusal.{answer, every, eachBelow, sameBytes}
-use Rattle.whole.specs.RefusalLaws.{both, both-first, both-second, answer-pass, answer-none, answer-first, answer-rest, every-at, each-at, same-refl-bytes}
+use Rattle.whole.specs.RefusalLaws.{both, both-first, both-second, answer-pass, answer-none, every-at, each-at, same-refl-bytes}
 use Rattle.rounding.specs.Parts.{high}
 use Rattle.rounding.specs.Tests.{lowPasses, sizePasses, fitsByte}
 use Rattle.ring.specs.Product.{mul}
-use Rattle.ring.specs.Lists.{naturals, integers, signedBytes, residues, length-residues, residues-below}
+use Rattle.ring.specs.Lists.{naturals, integers, signedBytes, residues, residues-below}
 use Rattle.ring.specs.Largest.{largest, sizes, sumPasses}
 use Rattle.ring.specs.Bound.{AtMost, bytes-bound}
 use Rattle.sets.specs.declared.Numbers.{Numbers}
@@ -27,15 +26,15 @@ use Rattle.sets.specs.Good.{Good}
 use Rattle.sets.specs.Limits.{messageLimit}
 use Rattle.sampling.specs.Positions.{Drawn, polynomialOf}
 use Rattle.sampling.specs.StreamsLaws.{shake-length, encOf-small, encOf-total}
-use Rattle.sampling.specs.Streams.{aOf, yOf, encOf, challenge, messageDigest, keyDigest, randOf}
-use Rattle.records.specs.Layout.{marked, stretch, polynomial, seedBytes, tBytes, publicBytes, signatureBytes, secretBytes}
-use Rattle.records.specs.Public.{packedT, publicRecord, tOf, allT, seedAOf, tInRange}
-use Rattle.records.specs.Secret.{secretRecord, eOf}
+use Rattle.sampling.specs.Streams.{aOf, yOf, encOf, challenge, messageDigest, keyDigest}
+use Rattle.records.specs.Layout.{marked, seedBytes, publicBytes}
+use Rattle.records.specs.Public.{packedT, tOf, allT, seedAOf}
+use Rattle.records.specs.Secret.{eOf}
 use Rattle.records.specs.Signature.{signatureRecord, zOf, challengeOf, zInRange}
 use Rattle.records.specs.PublicLaws.{polynomial-length, below-tInRange, publicRecord-length, public-marked, public-packed, public-seedA, public-t, public-allT}
 use Rattle.records.specs.SignatureLaws.{signatureRecord-length, signature-marked, signature-challenge, signature-z}
-use Rattle.keys.specs.Key.{keyT, allKeyT, publicOf, secretOf, eachEPasses}
-use Rattle.signing.specs.Attempt.{Key, Outcome, passes, fails, overflows, highsOf, vOf, zFrom, wOf, wPasses, attemptPasses, answered, tried, attempt}
+use Rattle.keys.specs.Key.{keyT, allKeyT, publicOf, eachEPasses}
+use Rattle.signing.specs.Attempt.{Key, passes, fails, overflows, highsOf, vOf, zFrom, wOf, wPasses, attemptPasses, answered, tried, attempt}
 use Rattle.checking.specs.Check.{checkW, checkHighs, publicG, checkTests}
 use Rattle.demands.specs.Alike.{same-w, alike}
 
@@ -118,7 +117,7 @@ map-alike {B = B} f n xs ys d e g h =
 
 -- ---- the key that key making made
 
-module _ (set : Numbers) (good : Good set) (s e seedA seedY : List ℕ) where
+module _ (set : Numbers) (good : Good set) (s e seedA : List ℕ) where
   -- t_1..t_k, and what the public record holds of them
   abbrev pub madeT : List ℕ
   madeT = allKeyT set s e seedA
@@ -254,33 +253,33 @@ module _ (set : Numbers) (good : Good set) (s e seedA seedY : List ℕ) where
 
 -- ---- demand 3
 
-module _ (set : Numbers) (good : Good set) (s e seedA seedY message : List ℕ) where
+module _ (set : Numbers) (good : Good set) (s e seedA message : List ℕ) where
   -- the facts of a key that was accepted, and of a message that was
   module _ (e-long : length e ≡ set .k * set .n) (seedA-long : length seedA ≡ seedBytes) (checkE : eachEPasses set e ≡ true)
       (short : length message ≤ messageLimit) where
     -- an attempt that passes gives a signature that checking accepts
     pub accepted : (rand : List ℕ) (counter : ℕ) (z : List ℤ) (c′ : List ℕ)
-        → attempt set (madeKey set good s e seedA seedY) (messageDigest set message) rand counter ≡ passes z c′
+        → attempt set (madeKey set good s e seedA) (messageDigest set message) rand counter ≡ passes z c′
         → answer (checkTests set (publicOf set s e seedA) message (signatureRecord set z c′)) ≡ 0
     unfolding checkTests
     accepted rand counter z c′ a =
         answer-pass 1 _ (both (eq-eqb _ _ public-long) (eq-eqb _ _ (signatureRecord-length set z c′ z-long c-long)))
         ∙ answer-pass 2 _ (both public-mark (signature-marked set z c′))
         ∙ answer-pass 3 _ (le-leb (length message) messageLimit short)
-        ∙ answer-pass 5 _ (below-tInRange set (allT set public) (rw public-t-is (madeT-below set good s e seedA seedY)))
+        ∙ answer-pass 5 _ (below-tInRange set (allT set public) (rw public-t-is (madeT-below set good s e seedA)))
         ∙ answer-pass 9 _ (ap (zInRange set) z-back ∙ z-passes)
         ∙ answer-pass 10 _ (ap (every fitsByte) highs-are ∙ p .fits)
         ∙ answer-pass 11 _ (ap₂ sameBytes hash-is c-back ∙ same-refl-bytes c′)
         ∙ answer-none
       where
         key : Key
-        key = madeKey set good s e seedA seedY
+        key = madeKey set good s e seedA
 
         y : List ℤ
         y = yOf set rand counter
 
         t : List ℕ
-        t = madeT set good s e seedA seedY
+        t = madeT set good s e seedA
 
         public : List ℕ
         public = publicOf set s e seedA
@@ -292,7 +291,7 @@ module _ (set : Numbers) (good : Good set) (s e seedA seedY message : List ℕ) 
         p = passing set key (messageDigest set message) rand counter z c′ a
 
         t-long : length t ≡ set .k * set .n
-        t-long = madeT-length set good s e seedA seedY
+        t-long = madeT-length set good s e seedA
 
         z-long : length z ≡ set .n
         z-long = ap length (sym (p .is)) ∙ zFrom-length set s y (encOf set c′)
@@ -307,13 +306,13 @@ module _ (set : Numbers) (good : Good set) (s e seedA seedY message : List ℕ) 
         w-passes = attempt-w set key y (vOf set seedA y) (encOf set c′) (p .tests)
 
         public-long : length public ≡ publicBytes set
-        public-long = made-length set good s e seedA seedY seedA-long
+        public-long = made-length set good s e seedA seedA-long
 
         public-mark : marked set 1 public ≡ true
         public-mark = made-marked set s e seedA
 
         public-t-is : allT set public ≡ t
-        public-t-is = made-allT set good s e seedA seedY
+        public-t-is = made-allT set good s e seedA
 
         z-back : zOf set signature ≡ z
         z-back = signature-z set z c′ z-long good z-passes
@@ -326,9 +325,9 @@ module _ (set : Numbers) (good : Good set) (s e seedA seedY message : List ℕ) 
 
         highs-are : checkHighs set (seedAOf set public) (tOf set public) (zOf set signature) (challengeOf set signature) ≡ highsOf set (vOf set seedA y)
         highs-are =
-            ap (λ (x : List ℕ). checkHighs set x (tOf set public) (zOf set signature) (challengeOf set signature)) (made-seedA set good s e seedA seedY seedA-long)
+            ap (λ (x : List ℕ). checkHighs set x (tOf set public) (zOf set signature) (challengeOf set signature)) (made-seedA set good s e seedA seedA-long)
             ∙ ap₂ (λ (x : List ℤ) (d : List ℕ). checkHighs set seedA (tOf set public) x d) (z-back ∙ sym (p .is)) c-back
-            ∙ same-highs set good s e seedA seedY e-long checkE y c′ few w-passes
+            ∙ same-highs set good s e seedA e-long checkE y c′ few w-passes
 
         hash-is : challenge set (checkHighs set (seedAOf set public) (tOf set public) (zOf set signature) (challengeOf set signature)) (messageDigest set message) (publicG set public) ≡ c′
-        hash-is = ap₂ (λ (h : List ℤ) (g : List ℕ). challenge set h (messageDigest set message) g) highs-are (made-g set good s e seedA seedY) ∙ p .hash
+        hash-is = ap₂ (λ (h : List ℤ) (g : List ℕ). challenge set h (messageDigest set message) g) highs-are (made-g set good s e seedA) ∙ p .hash

@@ -2,9 +2,9 @@
 -- of them hold. Each entry is a computation, checked by running the definitions.
 -- Assumes nothing.
 use mathlib.Core.Path.{_≡_, refl}
-use mathlib.Core.Bool.{Bool, true, false}
+use mathlib.Core.Bool.{true, false}
 use mathlib.Core.List.{List, [], _∷_, _++_, map}
-use Prim.Native.Nat.{ℕ, _-_, _/_}
+use Prim.Native.Nat.{ℕ, _-_}
 use lib.IntN.{ℤ, pos, negℤ, natAbs}
 use lib.ListN.{take, replicate}
 use Rattle.whole.specs.Residue.{residue}

@@ -1,10 +1,10 @@
 -- What the records share: their marks, their lengths in a set, and the stretches that they are made of.
 -- Assumes nothing: these are definitions.
 use mathlib.Core.Bool.{Bool, _&&_}
-use mathlib.Core.List.{List, [], _∷_, _++_}
+use mathlib.Core.List.{List, [], _∷_}
 use Prim.Native.Nat.{ℕ, _+_, _*_}
 use lib.Dec.{eqb}
-use lib.ListN.{length, getD, take, drop}
+use lib.ListN.{getD, take, drop}
 use Rattle.packing.specs.Digits.{bytesFor}
 use Rattle.sets.specs.declared.Numbers.{Numbers}
 

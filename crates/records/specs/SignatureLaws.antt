@@ -4,14 +4,14 @@
 use mathlib.Core.Path.{_≡_, refl, sym, ap, ap₂, _∙_}
 use mathlib.Core.Bool.{true}
 use mathlib.Core.List.{List, _++_, map}
-use Prim.Native.Nat.{ℕ, _+_, _*_, _-_, _^_, _≤_, _<_}
+use Prim.Native.Nat.{ℕ, _+_, _*_, _-_}
 use native.Mathlib.Nat.{le-of-eq}
 use native.Mathlib.Omega.{arith}
 use lib.IntN.{ℤ, pos, natAbs}
 use lib.ListN.{length, getD, drop, length-append, length-map}
 use lib.Seq.{take-all}
 use borrow.Author.Tests.{eq-eqb, eqb-true, leb-true}
-use Rattle.whole.specs.Int.{up, down, abs-le-to}
+use Rattle.whole.specs.Int.{abs-le-to}
 use Rattle.whole.specs.Below.{Below, below-take, below-drop}
 use Rattle.whole.specs.Parts.{part-length, part-piece, part-last, part-second, parts-join}
 use Rattle.whole.specs.Twos.{InBits, signed, twos}

@@ -2,7 +2,7 @@
 -- Bytes make numbers low byte first.
 -- Assumes nothing: these are definitions.
 use mathlib.Core.List.{List, [], _∷_, _++_, map}
-use Prim.Native.Nat.{ℕ, _+_, _-_, _*_, _/_, _%_}
+use Prim.Native.Nat.{ℕ, _+_, _*_, _/_, _%_}
 use lib.IntN.{ℤ, pos, _-ℤ_}
 use lib.ListN.{take, drop}
 use Rattle.shake.specs.Shake256.{shake256}

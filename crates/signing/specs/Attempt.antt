@@ -1,18 +1,15 @@
 -- One attempt of Algorithm 2, as a function of the set, the key, the message's digest, rand and the counter alone.
 -- Assumes nothing: these are definitions.
-use mathlib.Core.Bool.{Bool, true, false, cond, _&&_}
-use mathlib.Core.List.{List, [], _∷_, map}
-use Prim.Native.Nat.{ℕ, _-_}
-use lib.Dec.{leb, ltb}
-use lib.IntN.{ℤ, pos, negsuc, _+ℤ_, _-ℤ_}
-use lib.ListN.{length}
+use mathlib.Core.Bool.{Bool, cond, _&&_}
+use mathlib.Core.List.{List, map}
+use Prim.Native.Nat.{ℕ}
+use lib.IntN.{ℤ, pos, _+ℤ_, _-ℤ_}
 use Rattle.whole.specs.Table.{table, joined}
 use Rattle.whole.specs.Refusal.{every, eachBelow}
 use Rattle.rounding.specs.Parts.{high}
 use Rattle.rounding.specs.Tests.{lowPasses, sizePasses, fitsByte}
-use Rattle.ring.specs.Product.{Poly, mul}
+use Rattle.ring.specs.Product.{mul}
 use Rattle.ring.specs.Lists.{naturals, integers, signedBytes, residues}
-use Rattle.ring.specs.Sparse.{sparse}
 use Rattle.sets.specs.declared.Numbers.{Numbers}
 use Rattle.sampling.specs.Positions.{Drawn, polynomialOf}
 use Rattle.sampling.specs.Streams.{aOf, yOf, challenge, encOf}

@@ -1,14 +1,14 @@
 -- What the search finds: the smallest counter whose attempt passes, and none exactly where every attempt fails.
 -- Assumes nothing.
-use mathlib.Core.Path.{_≡_, refl, sym, ap, subst, _∙_}
-use mathlib.Core.Logic.{_⊎_, inl, inr, ⊎-elim}
+use mathlib.Core.Path.{_≡_, refl, ap, subst, _∙_}
+use mathlib.Core.Logic.{⊎-elim}
 use mathlib.Core.List.{List}
 use Prim.Native.Nat.{ℕ, zero, suc, _+_, _≤_, _<_}
 use native.Mathlib.Omega.{arith}
 use lib.IntN.{ℤ}
 use Rattle.whole.specs.Int.{lt-or-le}
 use Rattle.signing.specs.Attempt.{Outcome, passes, fails, overflows}
-use Rattle.signing.specs.Search.{Found, found, none, overflow, next, searchFrom}
+use Rattle.signing.specs.Search.{found, none, next, searchFrom}
 
 -- the search stopped at `counter`: the attempts from `from` up to it fail, and it is one of `left` counters from `from` on
 pub record Stopped (attempt : ℕ → Outcome) (left from counter : ℕ) (at : Outcome) : Type 0 where

@@ -1,11 +1,11 @@
 -- Signing: the tests of its inputs, then the search. What comes back: the number, the counter, and the signature record.
 -- Assumes nothing: these are definitions.
-use mathlib.Core.Bool.{Bool, _&&_}
+use mathlib.Core.Bool.{_&&_}
 use mathlib.Core.List.{List, [], _∷_}
 use Prim.Native.Nat.{ℕ, zero, suc}
 use lib.Dec.{eqb, leb}
 use lib.ListN.{length}
-use Rattle.whole.specs.Refusal.{Test, _orElse_, answer}
+use Rattle.whole.specs.Refusal.{Test, _orElse_}
 use Rattle.ring.specs.Largest.{sumPasses}
 use Rattle.sets.specs.declared.Numbers.{Numbers}
 use Rattle.sets.specs.Limits.{messageLimit, budgetLimit}
