@@ -2,9 +2,9 @@
 --     demand-3            if key making accepted s, e, seed_a and seed_y, and signing with the secret record answered a signature,
 --                         then checking it with the public record and that message accepts
 --     smallest-counter    the counter answered is the smallest from 1 whose attempt passes, and z and c' are that attempt's
---     none-exactly        signing answers 8 exactly if no counter from 1 to the budget passes (in a set whose high parts fit a byte)
---     set-I-fits          in set I they do: no high part is above 41 in size
--- The first two hold for every good set. What the names stand for is in the specs of `keys`, `signing` and `checking`.
+--     none-exactly        signing answers 8 exactly if its inputs pass their tests and no counter from 1 to the budget passes
+-- They hold for every good set, the last where no high part leaves a signed byte. In set I none does (`set-I-high`, 41 is the
+-- largest), and the three are stated for it at the end. What the names stand for is in the specs of `keys`, `signing` and `checking`.
 -- Assumes nothing.
 use mathlib.Core.Path.{_≡_, refl, sym, ap, ap₂, subst, _∙_}
 use mathlib.Core.Bool.{Bool, true, false, cond, _&&_}
@@ -12,7 +12,7 @@ use mathlib.Core.Logic.{_↔_}
 use mathlib.Core.List.{List, []}
 use Prim.Native.Nat.{ℕ, zero, suc, _+_, _*_, _/_, _^_, _≤_, _<_}
 use native.Mathlib.Omega.{arith}
-use lib.Dec.{eqb, leb}
+use lib.Dec.{eqb, leb, lit≤}
 use lib.ListN.{length}
 use lib.IntN.{ℤ, pos, negsuc, natAbs}
 use borrow.Author.Tests.{eqb-true, leb-true, lt-ltb}
@@ -23,7 +23,7 @@ use Rattle.rounding.specs.Tests.{fitsByte}
 use Rattle.sets.specs.declared.Numbers.{Numbers}
 use Rattle.sets.specs.Good.{Good}
 use Rattle.sets.specs.Limits.{messageLimit}
-use Rattle.sets.specs.SetI.{setI}
+use Rattle.sets.specs.SetI.{setI, setI-good}
 use Rattle.sampling.specs.Streams.{messageDigest, keyDigest, randOf, yOf, challenge, encOf}
 use Rattle.sampling.specs.StreamsLaws.{shake-length}
 use Rattle.records.specs.Layout.{seedBytes, publicBytes, secretBytes}
@@ -103,15 +103,52 @@ module _ (set : Numbers) (good : Good set) (s e seedA seedY : List ℕ) (a : Acc
       g : List ℕ
       g = keyDigest set (packedT set (allKeyT set s e seedA))
 
+-- ---- signing with the record that key making makes
+
+module _ (set : Numbers) (s e seedA seedY message r : List ℕ) (budget signatureLength : ℕ) where
+  -- the number of signing's tests, 0 if all pass
+  abbrev pub tests : ℕ
+  tests = answer (signTests set (secretOf set s e seedA seedY) (length message) (length r) budget signatureLength)
+
+  -- what its search gives
+  abbrev pub result : Found
+  result = signSearch set (secretOf set s e seedA seedY) message r budget
+
+  -- what signing answers: the number, and the counter
+  abbrev pub number : ℕ
+  number = signNumber tests result
+
+  abbrev pub counter : ℕ
+  counter = signCounter tests result
+
+  -- what a signature buffer holds afterwards
+  abbrev pub signature : List ℕ → List ℕ
+  signature old = signSignature set tests result old
+
+  -- attempt number j
+  abbrev pub attempts : ℕ → Outcome
+  attempts =
+      attempt set (keyOf set (secretOf set s e seedA seedY)) (messageDigest set message)
+      (randOf set (secretSeedY set (secretOf set s e seedA seedY)) r (messageDigest set message))
+
 -- ---- signing answered a signature
 
--- where the number is 0, every test passed and the search found something
-signed-is : (set : Numbers) (refusal : ℕ) (f : Found) (old : List ℕ) → signNumber refusal f ≡ 0
-    → (counter : ℕ) × (z : List ℤ) × (c′ : List ℕ) × (refusal ≡ 0) × (f ≡ found counter z c′) × (signSignature set refusal f old ≡ signatureRecord set z c′) × (signCounter refusal f ≡ counter)
-signed-is set zero (found counter z c′) old h = (counter, z, c′, refl, refl, refl, refl)
-signed-is set zero none old h = absurd (omega arith)
-signed-is set zero overflow old h = absurd (omega arith)
-signed-is set (suc refusal) f old h = absurd (omega arith)
+-- the number is 0: every test passed, and the search found a counter with z and c', which are written
+record Signed (set : Numbers) (refusal : ℕ) (f : Found) : Type 0 where
+  pub at : ℕ
+  pub z : List ℤ
+  pub c′ : List ℕ
+  pub passed : refusal ≡ 0
+  pub is : f ≡ found at z c′
+  pub written : (old : List ℕ) → signSignature set refusal f old ≡ signatureRecord set z c′
+  pub counted : signCounter refusal f ≡ at
+
+signed-is : (set : Numbers) (refusal : ℕ) (f : Found) → signNumber refusal f ≡ 0 → Signed set refusal f
+signed-is set zero (found counter z c′) h =
+    record { at = counter; z = z; c′ = c′; passed = refl; is = refl; written = λ old. refl; counted = refl }
+signed-is set zero none h = absurd (omega arith)
+signed-is set zero overflow h = absurd (omega arith)
+signed-is set (suc refusal) f h = absurd (omega arith)
 
 search-none : (refusal : ℕ) (f : Found) → refusal ≡ 0 → signNumber refusal f ≡ 8 → f ≡ none
 search-none zero (found counter z c′) e h = absurd (omega arith)
@@ -119,62 +156,55 @@ search-none zero none e h = refl
 search-none zero overflow e h = absurd (omega arith)
 search-none (suc refusal) f e h = absurd (omega arith)
 
-module _ (set : Numbers) (good : Good set) (s e seedA seedY message r : List ℕ) (budget signatureLength publicLength secretLength : ℕ) where
-  -- signing with the secret record that key making makes: its tests, and its search
-  abbrev tests : ℕ
-  tests = answer (signTests set (secretOf set s e seedA seedY) (length message) (length r) budget signatureLength)
-
-  abbrev result : Found
-  result = signSearch set (secretOf set s e seedA seedY) message r budget
-
-  -- attempt number j of it
-  abbrev attempts : ℕ → Outcome
-  attempts = attempt set (keyOf set (secretOf set s e seedA seedY)) (messageDigest set message) (randOf set (secretSeedY set (secretOf set s e seedA seedY)) r (messageDigest set message))
-
-  short : tests ≡ 0 → length message ≤ messageLimit
+module _ (set : Numbers) (s e seedA seedY message r : List ℕ) (budget signatureLength : ℕ) where
+  short : tests set s e seedA seedY message r budget signatureLength ≡ 0 → length message ≤ messageLimit
   unfolding signTests
-  short h = leb-true (length message) messageLimit (answer-first (leb (length message) messageLimit) 2 _ (answer-rest _ 1 _ (answer-rest _ 0 _ h)))
+  short h =
+      leb-true (length message) messageLimit
+      (answer-first (leb (length message) messageLimit) 2 _ (answer-rest _ 1 _ (answer-rest _ 0 _ h)))
 
-  pub demand-3 : (signature : List ℕ)
-      → answer (makeKeyTests set s e seedA seedY publicLength secretLength) ≡ 0
-      → signNumber tests result ≡ 0
-      → answer (checkTests set (publicOf set s e seedA) message (signSignature set tests result signature)) ≡ 0
+  -- the attempt that was found is the smallest that passes
+  stopped : (f : Signed set (tests set s e seedA seedY message r budget signatureLength) (result set s e seedA seedY message r budget signatureLength)) → Stopped (attempts set s e seedA seedY message r budget signatureLength) budget 1 (f .at) (passes (f .z) (f .c′))
   unfolding signSearch
-  demand-3 signature made signed = go (signed-is set tests result signature signed)
+  stopped f = found-smallest (attempts set s e seedA seedY message r budget signatureLength) budget 1 (f .at) (f .z) (f .c′) (f .is)
+
+  -- What the signer issues, the checker accepts.
+  pub demand-3 : Good set → (publicLength secretLength : ℕ) (old : List ℕ)
+      → answer (makeKeyTests set s e seedA seedY publicLength secretLength) ≡ 0
+      → number set s e seedA seedY message r budget signatureLength ≡ 0
+      → answer (checkTests set (publicOf set s e seedA) message (signature set s e seedA seedY message r budget signatureLength old)) ≡ 0
+  demand-3 good publicLength secretLength old made signed =
+      ap (λ (x : List ℕ). answer (checkTests set (publicOf set s e seedA) message x)) (f .written old)
+      ∙ accepted set good s e seedA message (a .e-long) (a .seedA-long) (a .checkE) (short (f .passed)) rand (f .at) (f .z) (f .c′)
+      (ap (λ (k : Key). attempt set k (messageDigest set message) rand (f .at)) (sym (same-key set good s e seedA seedY a)) ∙ stopped f .here)
     where
       a : Accepted set s e seedA seedY
       a = key-accepted set s e seedA seedY publicLength secretLength made
 
-      go : (counter : ℕ) × (z : List ℤ) × (c′ : List ℕ) × (tests ≡ 0) × (result ≡ found counter z c′) × (signSignature set tests result signature ≡ signatureRecord set z c′) × (signCounter tests result ≡ counter)
-          → answer (checkTests set (publicOf set s e seedA) message (signSignature set tests result signature)) ≡ 0
-      go f =
-          ap (λ (x : List ℕ). answer (checkTests set (publicOf set s e seedA) message x)) (f .5)
-          ∙ accepted set good s e seedA message (a .e-long) (a .seedA-long) (a .checkE) (short (f .3))
-          (randOf set (secretSeedY set (secretOf set s e seedA seedY)) r (messageDigest set message)) (f .0) (f .1) (f .2)
-          (ap (λ (k : Key). attempt set k (messageDigest set message) (randOf set (secretSeedY set (secretOf set s e seedA seedY)) r (messageDigest set message)) (f .0)) (sym (same-key set good s e seedA seedY a))
-          ∙ found-smallest attempts budget 1 (f .0) (f .1) (f .2) (f .4) .here)
+      rand : List ℕ
+      rand = randOf set (secretSeedY set (secretOf set s e seedA seedY)) r (messageDigest set message)
 
-  -- the counter is that of the smallest attempt that passes, and z and c' are its own
-  pub smallest-counter : (signature : List ℕ) → signNumber tests result ≡ 0
-      → (z : List ℤ) × (c′ : List ℕ) × Stopped attempts budget 1 (signCounter tests result) (passes z c′) × (signSignature set tests result signature ≡ signatureRecord set z c′)
-  unfolding signSearch
-  smallest-counter signature signed = go (signed-is set tests result signature signed)
+      f : Signed set (tests set s e seedA seedY message r budget signatureLength) (result set s e seedA seedY message r budget signatureLength)
+      f = signed-is set (tests set s e seedA seedY message r budget signatureLength) (result set s e seedA seedY message r budget signatureLength) signed
+
+  -- The counter answered is that of the smallest attempt that passes, and its z and c' are what is written.
+  pub smallest-counter : number set s e seedA seedY message r budget signatureLength ≡ 0
+      → (z : List ℤ) × (c′ : List ℕ) × Stopped (attempts set s e seedA seedY message r budget signatureLength) budget 1 (counter set s e seedA seedY message r budget signatureLength) (passes z c′)
+      × ((old : List ℕ) → signature set s e seedA seedY message r budget signatureLength old ≡ signatureRecord set z c′)
+  smallest-counter signed =
+      (f .z, f .c′, subst (λ (j : ℕ). Stopped (attempts set s e seedA seedY message r budget signatureLength) budget 1 j (passes (f .z) (f .c′))) (sym (f .counted)) (stopped f), f .written)
     where
-      go : (counter : ℕ) × (z : List ℤ) × (c′ : List ℕ) × (tests ≡ 0) × (result ≡ found counter z c′) × (signSignature set tests result signature ≡ signatureRecord set z c′) × (signCounter tests result ≡ counter)
-          → (z : List ℤ) × (c′ : List ℕ) × Stopped attempts budget 1 (signCounter tests result) (passes z c′) × (signSignature set tests result signature ≡ signatureRecord set z c′)
-      go f =
-          (f .1, f .2, subst (λ (c : ℕ). Stopped attempts budget 1 c (passes (f .1) (f .2))) (sym (f .6)) (found-smallest attempts budget 1 (f .0) (f .1) (f .2) (f .4)), f .5)
+      f : Signed set (tests set s e seedA seedY message r budget signatureLength) (result set s e seedA seedY message r budget signatureLength)
+      f = signed-is set (tests set s e seedA seedY message r budget signatureLength) (result set s e seedA seedY message r budget signatureLength) signed
 
-  -- ---- none exactly where none passes
-
-  -- 8 where every test passed and every attempt fails, and only there
-  pub none-fails-all : signNumber tests result ≡ 8 → tests ≡ 0 → (j : ℕ) → 1 ≤ j → j < 1 + budget → attempts j ≡ fails
+  -- where the answer is 8 every attempt fails, and where every attempt fails it is 8
+  none-fails-all : number set s e seedA seedY message r budget signatureLength ≡ 8 → tests set s e seedA seedY message r budget signatureLength ≡ 0 → (j : ℕ) → 1 ≤ j → j < 1 + budget → attempts set s e seedA seedY message r budget signatureLength j ≡ fails
   unfolding signSearch
-  none-fails-all h t = none-fails attempts budget 1 (search-none tests result t h)
+  none-fails-all h t = none-fails (attempts set s e seedA seedY message r budget signatureLength) budget 1 (search-none (tests set s e seedA seedY message r budget signatureLength) (result set s e seedA seedY message r budget signatureLength) t h)
 
-  pub all-fail-none : tests ≡ 0 → ((j : ℕ) → 1 ≤ j → j < 1 + budget → attempts j ≡ fails) → signNumber tests result ≡ 8
+  all-fail-none : tests set s e seedA seedY message r budget signatureLength ≡ 0 → ((j : ℕ) → 1 ≤ j → j < 1 + budget → attempts set s e seedA seedY message r budget signatureLength j ≡ fails) → number set s e seedA seedY message r budget signatureLength ≡ 8
   unfolding signSearch
-  all-fail-none t h = ap₂ signNumber t (fails-none attempts budget 1 h)
+  all-fail-none t h = ap₂ signNumber t (fails-none (attempts set s e seedA seedY message r budget signatureLength) budget 1 h)
 
 -- ---- no high part leaves a signed byte
 
@@ -222,27 +252,44 @@ must-fail (passes z c′) h g = absurd (g z c′ refl)
 must-fail fails h g = refl
 must-fail overflows h g = absurd (h refl)
 
-module _ (set : Numbers) (good : Good set) (fit : highMost set ≤ 127) (s e seedA seedY message r : List ℕ) (budget signatureLength publicLength secretLength : ℕ) where
+passes-not-fails : (o : Outcome) (z : List ℤ) (c′ : List ℕ) → o ≡ passes z c′ → o ≡ fails → ⊥
+passes-not-fails o z c′ p q = let x : _≡_ {A = ℕ} 0 1 = cc in omega arith
+
+tests-passed : (refusal : ℕ) (f : Found) → refusal ≤ 7 → signNumber refusal f ≡ 8 → refusal ≡ 0
+tests-passed zero f l h = refl
+tests-passed (suc refusal) f l h = absurd (omega arith)
+
+module _ (set : Numbers) (s e seedA seedY message r : List ℕ) (budget signatureLength : ℕ) where
   -- no attempt from 1 to the budget passes
   abbrev pub NonePasses : Type 0
-  NonePasses = (j : ℕ) → 1 ≤ j → j < 1 + budget → (z : List ℤ) (c′ : List ℕ) → attempts set good s e seedA seedY message r budget signatureLength publicLength secretLength j ≡ passes z c′ → ⊥
+  NonePasses = (j : ℕ) → 1 ≤ j → j < 1 + budget → (z : List ℤ) (c′ : List ℕ) → attempts set s e seedA seedY message r budget signatureLength j ≡ passes z c′ → ⊥
 
-  numbers-most : tests set good s e seedA seedY message r budget signatureLength publicLength secretLength ≤ 7
+  numbers-most : tests set s e seedA seedY message r budget signatureLength ≤ 7
   unfolding signTests every
   numbers-most = answer-most 7 (signTests set (secretOf set s e seedA seedY) (length message) (length r) budget signatureLength) refl
 
-  tests-passed : (refusal : ℕ) (f : Found) → refusal ≤ 7 → signNumber refusal f ≡ 8 → refusal ≡ 0
-  tests-passed zero f l h = refl
-  tests-passed (suc refusal) f l h = absurd (omega arith)
-
-  pub none-exactly : (signNumber (tests set good s e seedA seedY message r budget signatureLength publicLength secretLength) (result set good s e seedA seedY message r budget signatureLength publicLength secretLength) ≡ 8)
-      ↔ ((tests set good s e seedA seedY message r budget signatureLength publicLength secretLength ≡ 0) × NonePasses)
-  none-exactly = (
-    λ h. let t = tests-passed (tests set good s e seedA seedY message r budget signatureLength publicLength secretLength) (result set good s e seedA seedY message r budget signatureLength publicLength secretLength) numbers-most h in
-        (t, λ j l m z c′ p. clash z c′ (sym p ∙ none-fails-all set good s e seedA seedY message r budget signatureLength publicLength secretLength h t j l m)),
-    λ h. all-fail-none set good s e seedA seedY message r budget signatureLength publicLength secretLength (h .0)
-        (λ j l m. must-fail _ (never-overflows set (omega (arith, good .q-large)) fit _ _ _ j) (h .1 j l m)),
-  )
+  pub none-exactly : Good set → highMost set ≤ 127 → (number set s e seedA seedY message r budget signatureLength ≡ 8) ↔ ((tests set s e seedA seedY message r budget signatureLength ≡ 0) × NonePasses)
+  none-exactly good fit = (only, given)
     where
-      clash : (z : List ℤ) (c′ : List ℕ) → passes z c′ ≡ fails → ⊥
-      clash z c′ q = let x : _≡_ {A = ℕ} 0 1 = cc in omega arith
+      only : number set s e seedA seedY message r budget signatureLength ≡ 8 → (tests set s e seedA seedY message r budget signatureLength ≡ 0) × NonePasses
+      only h =
+          let t = tests-passed (tests set s e seedA seedY message r budget signatureLength) (result set s e seedA seedY message r budget signatureLength) numbers-most h in
+          (t, λ j l m z c′ p. passes-not-fails (attempts set s e seedA seedY message r budget signatureLength j) z c′ p (none-fails-all set s e seedA seedY message r budget signatureLength h t j l m))
+
+      given : (tests set s e seedA seedY message r budget signatureLength ≡ 0) × NonePasses → number set s e seedA seedY message r budget signatureLength ≡ 8
+      given h =
+          all-fail-none set s e seedA seedY message r budget signatureLength (h .0)
+          (λ j l m. must-fail (attempts set s e seedA seedY message r budget signatureLength j) (never-overflows set (omega (arith, good .q-large)) fit _ _ _ j) (h .1 j l m))
+
+-- ---- in set I
+
+module _ (s e seedA seedY message r : List ℕ) (budget signatureLength : ℕ) where
+  pub set-I-accepts : (publicLength secretLength : ℕ) (old : List ℕ)
+      → answer (makeKeyTests setI s e seedA seedY publicLength secretLength) ≡ 0
+      → number setI s e seedA seedY message r budget signatureLength ≡ 0
+      → answer (checkTests setI (publicOf setI s e seedA) message (signature setI s e seedA seedY message r budget signatureLength old)) ≡ 0
+  set-I-accepts = demand-3 setI s e seedA seedY message r budget signatureLength setI-good
+
+  pub set-I-none : (number setI s e seedA seedY message r budget signatureLength ≡ 8)
+      ↔ ((tests setI s e seedA seedY message r budget signatureLength ≡ 0) × NonePasses setI s e seedA seedY message r budget signatureLength)
+  set-I-none = none-exactly setI s e seedA seedY message r budget signatureLength setI-good (lit≤ tt)
