@@ -1,4 +1,5 @@
 pub mod TwelveSums
+pub mod BothTests
 pub mod Alike
 pub mod Holds
 pub mod Demand3
