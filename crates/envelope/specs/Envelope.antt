@@ -1,12 +1,12 @@
 -- The envelope: mark 4, the team number and the roster's length L in two bytes each, low first, the roster, the signature record.
 -- The roster is the signed message.
 -- Assumes nothing: these are definitions.
-use mathlib.Core.Bool.{Bool, _&&_}
+use mathlib.Core.Bool.{_&&_}
 use mathlib.Core.List.{List, [], _∷_, _++_}
-use Prim.Native.Nat.{ℕ, _+_, _*_, _-_}
+use Prim.Native.Nat.{ℕ, _+_, _*_}
 use lib.Dec.{eqb, leb}
-use lib.ListN.{length, getD, take, drop}
-use Rattle.whole.specs.Refusal.{Test, _orElse_, answer, after}
+use lib.ListN.{length, getD}
+use Rattle.whole.specs.Refusal.{Test, _orElse_, after}
 use Rattle.sets.specs.declared.Numbers.{Numbers}
 use Rattle.sets.specs.Limits.{messageLimit}
 use Rattle.sampling.specs.Streams.{twoBytes}

@@ -1,0 +1,129 @@
+-- Laws of the envelope of a good set: what is written reads back (`envelope-team`, `envelope-length`, `envelope-roster`,
+-- `envelope-signature`), what reads is what would be written (`envelope-again`), and an envelope around a signature that checking
+-- accepts is opened (`envelope-opens`).
+-- Assumes nothing.
+use mathlib.Core.Path.{_≡_, refl, sym, ap, ap₂, _∙_}
+use mathlib.Core.Bool.{true}
+use mathlib.Core.List.{List, [], _∷_, _++_}
+use Prim.Native.Nat.{ℕ, suc, _+_, _*_, _/_, _%_, _≤_, _<_}
+use native.Mathlib.Omega.{arith}
+use lib.ListN.{length, getD, take, drop, length-append}
+use lib.Seq.{take-all, take-at, drop-cons}
+use borrow.Author.Tests.{eq-eqb, eqb-true, le-leb}
+use Rattle.whole.specs.Below.{Below}
+use Rattle.whole.specs.Parts.{part-length, part-second, part-last, parts-join}
+use Rattle.whole.specs.Refusal.{answer}
+use Rattle.whole.specs.RefusalLaws.{answer-pass, answer-first, answer-rest}
+use Rattle.sets.specs.declared.Numbers.{Numbers}
+use Rattle.sets.specs.Limits.{messageLimit}
+use Rattle.sampling.specs.Streams.{twoBytes}
+use Rattle.records.specs.Layout.{mark, marked, stretch, signatureBytes}
+use Rattle.records.specs.PublicLaws.{marked-mark, marked-front}
+use Rattle.checking.specs.Check.{checkTests}
+use Rattle.envelope.specs.Envelope.{headBytes, envelopeBytes, envelopeOf, numberAt, teamOf, lengthOf, rosterOf, signatureOf, headTests, openTests}
+
+-- ---- what is written reads back
+
+two-bytes : (x : ℕ) → x < 65536 → x % 256 + 256 * (x / 256 % 256) ≡ x
+two-bytes x h = omega arith
+
+module _ (s : Numbers) (team : ℕ) (roster signature : List ℕ) where
+  pub envelope-marked : marked s 4 (envelopeOf s team roster signature) ≡ true
+  unfolding envelopeOf
+  envelope-marked = marked-mark s 4 (twoBytes team ++ (twoBytes (length roster) ++ (roster ++ signature)))
+
+  pub envelope-team : team < 65536 → teamOf (envelopeOf s team roster signature) ≡ team
+  unfolding teamOf envelopeOf
+  envelope-team h = two-bytes team h
+
+  pub envelope-length : length roster < 65536 → lengthOf (envelopeOf s team roster signature) ≡ length roster
+  unfolding lengthOf envelopeOf
+  envelope-length h = two-bytes (length roster) h
+
+  pub envelope-bytes : length signature ≡ signatureBytes s → length (envelopeOf s team roster signature) ≡ envelopeBytes s (length roster)
+  unfolding envelopeOf
+  envelope-bytes e = omega (arith, length-append roster signature)
+
+  -- the bytes before the roster
+  head : List ℕ
+  head = mark s 4 ++ (twoBytes team ++ twoBytes (length roster))
+
+  pub front : stretch headBytes (length roster) (envelopeOf s team roster signature) ≡ roster
+  unfolding envelopeOf
+  front = take-at roster signature (length roster) refl
+
+  pub back : length signature ≡ signatureBytes s → stretch (headBytes + length roster) (signatureBytes s) (envelopeOf s team roster signature) ≡ signature
+  unfolding envelopeOf head
+  back e =
+      part-second headBytes (length roster) (signatureBytes s) head (roster ++ signature) refl
+      ∙ part-last (length roster) (signatureBytes s) roster signature refl e
+
+  module _ (short : length roster < 65536) where
+    pub envelope-roster : rosterOf (envelopeOf s team roster signature) ≡ roster
+    unfolding rosterOf
+    envelope-roster = ap (λ (n : ℕ). stretch headBytes n (envelopeOf s team roster signature)) (envelope-length short) ∙ front
+
+    pub envelope-signature : length signature ≡ signatureBytes s → signatureOf s (envelopeOf s team roster signature) ≡ signature
+    unfolding signatureOf
+    envelope-signature e =
+        ap (λ (n : ℕ). stretch (headBytes + n) (signatureBytes s) (envelopeOf s team roster signature)) (envelope-length short) ∙ back e
+
+  -- ---- an envelope around a signature that checking accepts is opened
+
+  pub envelope-opens : (public : List ℕ) → length signature ≡ signatureBytes s → length roster ≤ messageLimit
+      → answer (checkTests s public roster signature) ≡ 0 → answer (openTests s public (envelopeOf s team roster signature)) ≡ 0
+  unfolding openTests headTests
+  envelope-opens public e short accepted =
+      answer-pass 1 _ (le-leb headBytes (length (envelopeOf s team roster signature)) (omega (arith, envelope-bytes e)))
+      ∙ answer-pass 2 _ envelope-marked
+      ∙ answer-pass 3 _ (le-leb (lengthOf (envelopeOf s team roster signature)) messageLimit (omega (arith, envelope-length (omega arith))))
+      ∙ answer-pass 1 _ (eq-eqb _ _ (envelope-bytes e ∙ ap (envelopeBytes s) (sym (envelope-length (omega arith)))))
+      ∙ ap₂ (λ (m g : List ℕ). answer (checkTests s public m g)) (envelope-roster (omega arith)) (envelope-signature (omega arith) e)
+      ∙ accepted
+
+-- ---- what reads is what would be written
+
+-- two bytes make a number, and the number those bytes
+two-back : (a : ℕ) (xs : List ℕ) → a + 2 ≤ length xs → Below 256 xs → twoBytes (numberAt a xs) ≡ take 2 (drop a xs)
+two-back a xs h b =
+    ap₂ (λ (x y : ℕ). x ∷ y ∷ []) low high
+    ∙ sym (ap (take 2) (drop-cons xs a 0 (omega arith) ∙ ap (λ (l : List ℕ). getD xs a 0 ∷ l) (drop-cons xs (suc a) 0 (omega arith))))
+  where
+    x-below : getD xs a 0 < 256
+    x-below = b .at a (omega arith)
+
+    y-below : getD xs (a + 1) 0 < 256
+    y-below = b .at (a + 1) (omega arith)
+
+    low : numberAt a xs % 256 ≡ getD xs a 0
+    low = omega (arith, x-below, y-below)
+
+    next : a + 1 ≡ suc a
+    next = omega arith
+
+    high : numberAt a xs / 256 % 256 ≡ getD xs (suc a) 0
+    high = rw (← next) (omega (arith, x-below, y-below))
+
+module _ (s : Numbers) (envelope : List ℕ) (bytes : Below 256 envelope) (passed : answer (headTests s envelope) ≡ 0) where
+  long : length envelope ≡ envelopeBytes s (lengthOf envelope)
+  unfolding headTests
+  long = eqb-true _ _ (answer-first _ 0 _ (answer-rest _ 2 _ (answer-rest _ 1 _ (answer-rest _ 0 _ passed))))
+
+  is-marked : marked s 4 envelope ≡ true
+  unfolding headTests
+  is-marked = answer-first _ 1 _ (answer-rest _ 0 _ passed)
+
+  pub envelope-again : envelopeOf s (teamOf envelope) (rosterOf envelope) (signatureOf s envelope) ≡ envelope
+  unfolding envelopeOf teamOf rosterOf signatureOf lengthOf
+  envelope-again =
+      ap₂ _++_ (marked-front s 4 envelope (omega (arith, long)) is-marked)
+      (ap₂ _++_ (two-back 2 envelope (omega (arith, long)) bytes)
+      (ap₂ _++_ (ap twoBytes roster-length ∙ two-back 4 envelope (omega (arith, long)) bytes)
+      (parts-join headBytes (lengthOf envelope) (signatureBytes s) envelope)
+      ∙ parts-join 4 2 (lengthOf envelope + signatureBytes s) envelope)
+      ∙ parts-join 2 2 (2 + (lengthOf envelope + signatureBytes s)) envelope)
+      ∙ parts-join 0 2 (2 + (2 + (lengthOf envelope + signatureBytes s))) envelope
+      ∙ take-all (2 + (2 + (2 + (lengthOf envelope + signatureBytes s)))) envelope (omega (arith, long))
+    where
+      roster-length : length (stretch headBytes (lengthOf envelope) envelope) ≡ lengthOf envelope
+      roster-length = part-length headBytes (lengthOf envelope) envelope (omega (arith, long))
