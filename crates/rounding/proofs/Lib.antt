@@ -1,2 +1,4 @@
 pub mod Laws
+pub mod Bytes
+pub mod Loops
 pub mod Determined

@@ -1,3 +1,4 @@
 pub mod Centred
 pub mod Parts
 pub mod Tests
+pub mod Asks

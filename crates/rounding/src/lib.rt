@@ -1,4 +1,6 @@
 // The centred remainder and the high part of a residue, and the two tests on w, for any q and d.
+pub mod polynomial;
+
 ghost use mathlib.Core.Path.{_≡_};
 ghost use Prim.Native.Nat.{_<_, _^_};
 ghost use lib.IntN.{pos, negℤ, natAbs};

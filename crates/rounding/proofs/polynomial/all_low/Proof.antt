@@ -1,0 +1,68 @@
+-- `rounding::polynomial::all_low` meets its contract. The loop's invariant: what every coefficient from i on says, all of them say.
+-- The measure is the number of those left. Assumes nothing.
+use mathlib.Core.Path.{_≡_, refl, sym, _∙_}
+use Prim.Native.Nat.{_-_}
+use native.Mathlib.Omega.{arith}
+use borrow.Author.Tests.{not-true, not-false}
+use lib.ListN.{length, drop}
+use lib.IntN.{pos}
+use Rattle.whole.specs.Refusal.{every}
+use Rattle.whole.specs.RefusalLaws.{every-pass, every-fail, every-end}
+use Rattle.rounding.specs.Tests.{lowPasses}
+use Rattle.rounding.proofs.polynomial.all_low.Statement.{statement}
+use Rattle.rounding.proofs.polynomial.all_low.Tie as tie
+
+abbrev Inv-loop : tie.InvT-loop
+Inv-loop w q d bound i₀ i = every (λ x. lowPasses q d bound (pos x)) w ≡ every (λ x. lowPasses q d bound (pos x)) (drop i w)
+
+abbrev μ-loop : tie.MeasureT-loop
+μ-loop w q d bound i₀ i = length w - i
+
+loop-holds : tie.Need-loop-holds Inv-loop μ-loop
+loop-holds c = refl
+
+mul-low-passes : tie.Need-mul-low-passes Inv-loop μ-loop
+mul-low-passes c = omega arith
+
+shared-slice-read-low-passes : tie.Need-shared-slice-read-low-passes Inv-loop μ-loop
+shared-slice-read-low-passes c = omega arith
+
+low-passes-requires : tie.Need-low-passes-requires Inv-loop μ-loop
+low-passes-requires c κs =
+    let s = c .before .before .before .before in
+    (record { residue = s .pre .below .at (c .before .before .loop .i) (c .before .loop-test .taken); small = s .pre .small; step = s .pre .step; fits = s .pre .fits }, s .pre .room)
+
+returns : tie.Need-returns Inv-loop μ-loop
+returns c =
+    let l = c .before .before .before .before in
+    sym (l .loop .inv ∙ every-fail _ _ (l .loop .i) 0 (c .before .before .before .loop-test .taken) (sym (c .before .low-passes .ensures) ∙ not-true _ (c .if1 .taken)))
+
+add-i : tie.Need-add-i Inv-loop μ-loop
+add-i c = omega arith
+
+loop-less : tie.Need-loop-less Inv-loop μ-loop
+loop-less c = omega arith
+
+loop-again : tie.Need-loop-again Inv-loop μ-loop
+loop-again c =
+    let l = c .before .before .before .before in
+    l .loop .inv ∙ every-pass _ _ (l .loop .i) 0 (c .before .before .before .loop-test .taken) (sym (c .before .low-passes .ensures) ∙ not-false _ (c .if1 .left))
+
+returns-2 : tie.Need-returns-2 Inv-loop μ-loop
+returns-2 c = sym (c .before .loop .inv ∙ every-end _ _ (c .before .loop .i) 0 (c .loop-test .left))
+
+pub all-low-spec : {M : Type 1} → statement M
+all-low-spec =
+    tie.close
+    (tie.spec
+    Inv-loop
+    μ-loop
+    loop-holds
+    mul-low-passes
+    shared-slice-read-low-passes
+    low-passes-requires
+    returns
+    add-i
+    loop-less
+    loop-again
+    returns-2)

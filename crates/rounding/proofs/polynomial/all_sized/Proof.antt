@@ -1,0 +1,68 @@
+-- `rounding::polynomial::all_sized` meets its contract. The loop's invariant: what every coefficient from j on says, all of them say.
+-- The measure is the number of those left. Assumes nothing.
+use mathlib.Core.Path.{_≡_, refl, sym, _∙_}
+use Prim.Native.Nat.{_-_}
+use native.Mathlib.Omega.{arith}
+use borrow.Author.Tests.{not-true, not-false}
+use lib.ListN.{length, drop}
+use lib.IntN.{pos}
+use Rattle.whole.specs.Refusal.{every}
+use Rattle.whole.specs.RefusalLaws.{every-pass, every-fail, every-end}
+use Rattle.rounding.specs.Tests.{sizePasses}
+use Rattle.rounding.proofs.polynomial.all_sized.Statement.{statement}
+use Rattle.rounding.proofs.polynomial.all_sized.Tie as tie
+
+abbrev Inv-loop : tie.InvT-loop
+Inv-loop w q bound j₀ j = every (λ x. sizePasses q bound (pos x)) w ≡ every (λ x. sizePasses q bound (pos x)) (drop j w)
+
+abbrev μ-loop : tie.MeasureT-loop
+μ-loop w q bound j₀ j = length w - j
+
+loop-holds : tie.Need-loop-holds Inv-loop μ-loop
+loop-holds c = refl
+
+mul-size-passes : tie.Need-mul-size-passes Inv-loop μ-loop
+mul-size-passes c = omega arith
+
+shared-slice-read-size-passes : tie.Need-shared-slice-read-size-passes Inv-loop μ-loop
+shared-slice-read-size-passes c = omega arith
+
+size-passes-requires : tie.Need-size-passes-requires Inv-loop μ-loop
+size-passes-requires c κs =
+    let s = c .before .before .before .before in
+    ((s .pre .below .at (c .before .before .loop .j) (c .before .loop-test .taken), s .pre .small), s .pre .room)
+
+returns : tie.Need-returns Inv-loop μ-loop
+returns c =
+    let l = c .before .before .before .before in
+    sym (l .loop .inv ∙ every-fail _ _ (l .loop .j) 0 (c .before .before .before .loop-test .taken) (sym (c .before .size-passes .ensures) ∙ not-true _ (c .if1 .taken)))
+
+add-j : tie.Need-add-j Inv-loop μ-loop
+add-j c = omega arith
+
+loop-less : tie.Need-loop-less Inv-loop μ-loop
+loop-less c = omega arith
+
+loop-again : tie.Need-loop-again Inv-loop μ-loop
+loop-again c =
+    let l = c .before .before .before .before in
+    l .loop .inv ∙ every-pass _ _ (l .loop .j) 0 (c .before .before .before .loop-test .taken) (sym (c .before .size-passes .ensures) ∙ not-false _ (c .if1 .left))
+
+returns-2 : tie.Need-returns-2 Inv-loop μ-loop
+returns-2 c = sym (c .before .loop .inv ∙ every-end _ _ (c .before .loop .j) 0 (c .loop-test .left))
+
+pub all-sized-spec : {M : Type 1} → statement M
+all-sized-spec =
+    tie.close
+    (tie.spec
+    Inv-loop
+    μ-loop
+    loop-holds
+    mul-size-passes
+    shared-slice-read-size-passes
+    size-passes-requires
+    returns
+    add-j
+    loop-less
+    loop-again
+    returns-2)
