@@ -17,15 +17,17 @@ pub record Apart (w x : ℤ) (lowTest sizeTest : Bool) (highW highWX : ℤ) : Ty
   pub first : lowPasses (setI .q) (setI .d) (setI .e) w ≡ lowTest
   pub second : sizePasses (setI .q) (setI .e) w ≡ sizeTest
   pub small : natAbs x ≤ setI .e
-  pub signer : high (setI .q) (setI .d) w ≡ highW
-  pub receiver : high (setI .q) (setI .d) (w +ℤ x) ≡ highWX
+  -- what the receiver computes, from w
+  pub receiver : high (setI .q) (setI .d) w ≡ highW
+  -- what the signer hashed, from v = w + x
+  pub signer : high (setI .q) (setI .d) (w +ℤ x) ≡ highWX
 
 -- at half a step: without the low-part test, 0 and 1
 pub without-the-first : Apart (pos 2097152) (pos 1) false true (pos 0) (pos 1)
 unfolding lowPasses sizePasses low high centred residue
-without-the-first = record { first = refl; second = refl; small = lit≤ tt; signer = refl; receiver = refl }
+without-the-first = record { first = refl; second = refl; small = lit≤ tt; receiver = refl; signer = refl }
 
 -- at floor(q/2): without the test on |w|, 41 and −41
 pub without-the-second : Apart (pos 171788288) (pos 1) true false (pos 41) (negℤ (pos 41))
 unfolding lowPasses sizePasses low high centred residue
-without-the-second = record { first = refl; second = refl; small = lit≤ tt; signer = refl; receiver = refl }
+without-the-second = record { first = refl; second = refl; small = lit≤ tt; receiver = refl; signer = refl }

@@ -1,14 +1,28 @@
--- Demand 1: a refusal's number is that of the first test that fails, in the order in which the entry's tests stand, and a refusal
--- leaves each output as it was. Entries answer `answer` of their list of tests, and leave `after` that answer in each output: so
--- these laws are about every entry at once.
+-- Demand 1: a refusal's number is that of the first test that fails, in the order in which the entry's tests stand; where the
+-- numbers rise that is the lowest number that applies; and a refusal leaves each output as it was.
+-- An entry answers `answer` of its list of tests and leaves `after` that answer in each output, so the laws are of lists of tests.
+-- Signing's search comes after its tests: what it leaves on refusal is `sign-untouched`. The lists of all entries are gathered in
+-- `entries`: in none has a test the number 0; `rising` has those whose numbers rise, so that they answer the lowest that applies.
+-- Opening and reading an envelope test in an order of their own.
 -- Assumes nothing.
 use mathlib.Core.Path.{_≡_, refl, sym, ap, subst, _∙_}
-use mathlib.Core.Bool.{Bool, true, false, cond}
-use mathlib.Core.Logic.{_↔_}
+use mathlib.Core.Bool.{Bool, true, false, cond, true≢false}
 use mathlib.Core.List.{List, [], _∷_}
-use Prim.Native.Nat.{ℕ, zero, suc}
+use Prim.Native.Nat.{ℕ, zero, suc, _≤_}
+use native.Mathlib.Nat.{le-refl, le-trans}
 use native.Mathlib.Omega.{arith}
+use lib.Dec.{lit≤}
+use lib.IntN.{ℤ}
 use Rattle.whole.specs.Refusal.{Test, answer, after}
+use Rattle.sets.specs.declared.Numbers.{Numbers}
+use Rattle.records.specs.Public.{readPublicTests, writePublicTests}
+use Rattle.records.specs.Secret.{readSecretTests, writeSecretTests}
+use Rattle.records.specs.Signature.{readSignatureTests, writeSignatureTests}
+use Rattle.keys.specs.Key.{makeKeyTests}
+use Rattle.signing.specs.Search.{Found, found, none as none-found, overflow}
+use Rattle.signing.specs.Sign.{signTests, signNumber, signCounter, signSignature}
+use Rattle.checking.specs.Check.{checkTests}
+use Rattle.envelope.specs.Envelope.{headTests, readTests, openTests, writeTests}
 
 -- every test before it passes, the test itself does not, and `number` is its number
 pub data FirstFailing : List Test → ℕ → Type 0 where
@@ -50,3 +64,92 @@ all-pass (t ∷ ts) (more m n ns) e = step-all t ts m n (t .passes) refl (all-pa
 pub untouched : {A : Type 0} (ts : List Test) (number : ℕ) (new old : A) → answer ts ≡ suc number → after (answer ts) new old ≡ old
 unfolding after
 untouched ts number new old e = ap (λ (n : ℕ). after n new old) e
+
+-- ---- the lowest number that applies
+
+-- each number is at most the next
+pub data Rising : List Test → Type 0 where
+  end : Rising []
+  one : {t : Test} → Rising (t ∷ [])
+  up : {t u : Test} {ts : List Test} → t .number ≤ u .number → Rising (u ∷ ts) → Rising (t ∷ u ∷ ts)
+
+-- every test that fails has at least this number
+pub data AtLeast : ℕ → List Test → Type 0 where
+  end : {m : ℕ} → AtLeast m []
+  also : {m : ℕ} {t : Test} {ts : List Test} → (t .passes ≡ false → m ≤ t .number) → AtLeast m ts → AtLeast m (t ∷ ts)
+
+above : (m : ℕ) (t : Test) (ts : List Test) → Rising (t ∷ ts) → m ≤ t .number → AtLeast m ts
+above m t [] r h = end
+above m t (u ∷ ts) (up l r) h = also (λ _. le-trans h l) (above m u ts r (le-trans h l))
+
+rising-tail : {t : Test} {ts : List Test} → Rising (t ∷ ts) → Rising ts
+rising-tail one = end
+rising-tail (up l r) = r
+
+-- where the numbers rise, the answer is the lowest number of a test that fails
+pub lowest : (ts : List Test) (number : ℕ) → Rising ts → FirstFailing ts number → AtLeast number ts
+lowest (t ∷ ts) number r (here p) = also (λ _. le-refl (t .number)) (above (t .number) t ts r (le-refl (t .number)))
+lowest (t ∷ ts) number r (later p f) = also (λ q. absurd (true≢false (sym p ∙ q))) (lowest ts number (rising-tail r) f)
+
+-- ---- signing
+
+-- on refusal the signature buffer is as it was, and the counter is 0
+pub sign-untouched : (set : Numbers) (refusal : ℕ) (f : Found) (number : ℕ) (old : List ℕ) → signNumber refusal f ≡ suc number
+    → (signSignature set refusal f old ≡ old) × (signCounter refusal f ≡ 0)
+sign-untouched set zero (found counter z c′) number old h = absurd (omega arith)
+sign-untouched set zero none-found number old h = (refl, refl)
+sign-untouched set zero overflow number old h = (refl, refl)
+sign-untouched set (suc refusal) f number old h = (refl, refl)
+
+-- ---- the lists of the entries
+
+module _ (set : Numbers) where
+  -- in no list has a test the number 0
+  pub record Entries : Type 0 where
+    pub read-public : (public : List ℕ) (t seed : ℕ) → Numbered (readPublicTests set public t seed)
+    pub write-public : (t seedA : List ℕ) (n : ℕ) → Numbered (writePublicTests set t seedA n)
+    pub read-secret : (secret : List ℕ) (a b c d e : ℕ) → Numbered (readSecretTests set secret a b c d e)
+    pub write-secret : (s e seedA seedY g : List ℕ) (n : ℕ) → Numbered (writeSecretTests set s e seedA seedY g n)
+    pub read-signature : (signature : List ℕ) (z c : ℕ) → Numbered (readSignatureTests set signature z c)
+    pub write-signature : (z : List ℤ) (c′ : List ℕ) (n : ℕ) → Numbered (writeSignatureTests set z c′ n)
+    pub make-key : (s e seedA seedY : List ℕ) (p q : ℕ) → Numbered (makeKeyTests set s e seedA seedY p q)
+    pub sign : (secret : List ℕ) (m r b n : ℕ) → Numbered (signTests set secret m r b n)
+    pub check : (public message signature : List ℕ) → Numbered (checkTests set public message signature)
+    pub write-envelope : (roster signature : List ℕ) (n : ℕ) → Numbered (writeTests set roster signature n)
+    pub read-envelope : (envelope : List ℕ) → Numbered (readTests set envelope)
+    pub open-envelope : (public envelope : List ℕ) → Numbered (openTests set public envelope)
+
+  pub entries : Entries
+  unfolding readPublicTests writePublicTests readSecretTests writeSecretTests readSignatureTests writeSignatureTests makeKeyTests signTests checkTests writeTests readTests openTests headTests
+  entries =
+      record {
+        read-public = λ public t seed. more 0 refl (more 1 refl (more 4 refl none));
+        write-public = λ t seedA n. more 0 refl (more 4 refl none);
+        read-secret = λ secret a b c d e. more 0 refl (more 1 refl (more 4 refl none));
+        write-secret = λ s e seedA seedY g n. more 0 refl (more 4 refl none);
+        read-signature = λ signature z c. more 0 refl (more 1 refl (more 8 refl none));
+        write-signature = λ z c′ n. more 0 refl (more 8 refl none);
+        make-key = λ s e seedA seedY p q. more 0 refl (more 4 refl (more 5 refl (more 6 refl none)));
+        sign = λ secret m r b n. more 0 refl (more 1 refl (more 2 refl (more 3 refl (more 4 refl (more 5 refl (more 6 refl none))))));
+        check = λ public message signature. more 0 refl (more 1 refl (more 2 refl (more 4 refl (more 8 refl (more 9 refl (more 10 refl none))))));
+        write-envelope = λ roster signature n. more 0 refl (more 1 refl (more 2 refl (more 8 refl none)));
+        read-envelope = λ envelope. more 0 refl (more 1 refl (more 2 refl (more 0 refl (more 1 refl (more 8 refl none)))));
+        open-envelope = λ public envelope. more 0 refl (more 1 refl (more 2 refl (more 0 refl (more 0 refl (more 1 refl (more 2 refl (more 4 refl (more 8 refl (more 9 refl (more 10 refl none))))))))));
+      }
+
+  -- the lists that answer the lowest number that applies
+  pub record RisingEntries : Type 0 where
+    pub make-key : (s e seedA seedY : List ℕ) (p q : ℕ) → Rising (makeKeyTests set s e seedA seedY p q)
+    pub sign : (secret : List ℕ) (m r b n : ℕ) → Rising (signTests set secret m r b n)
+    pub check : (public message signature : List ℕ) → Rising (checkTests set public message signature)
+    pub write-envelope : (roster signature : List ℕ) (n : ℕ) → Rising (writeTests set roster signature n)
+
+  pub rising : RisingEntries
+  unfolding makeKeyTests signTests checkTests writeTests
+  rising =
+      record {
+        make-key = λ s e seedA seedY p q. up (lit≤ tt) (up (lit≤ tt) (up (lit≤ tt) one));
+        sign = λ secret m r b n. up (lit≤ tt) (up (lit≤ tt) (up (lit≤ tt) (up (lit≤ tt) (up (lit≤ tt) (up (lit≤ tt) one)))));
+        check = λ public message signature. up (lit≤ tt) (up (lit≤ tt) (up (lit≤ tt) (up (lit≤ tt) (up (lit≤ tt) (up (lit≤ tt) one)))));
+        write-envelope = λ roster signature n. up (lit≤ tt) (up (lit≤ tt) (up (lit≤ tt) one));
+      }

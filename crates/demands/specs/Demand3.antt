@@ -1,18 +1,21 @@
 -- Demand 3: what the signer issues, the checker accepts.
---     demand-3            if key making accepted s, e, seed_a and seed_y, and signing with the secret record answered a signature,
---                         then checking it with the public record and that message accepts
+--     demand-3            if key making accepted s, e, seed_a and seed_y, and signing with the secret record that it made answered a
+--                         signature, then checking it with the public record that it made and that message accepts
+-- and, of signing with any secret record:
 --     smallest-counter    the counter answered is the smallest from 1 whose attempt passes, and z and c' are that attempt's
+--     signed-exactly      signing answers a signature exactly if its inputs pass their tests and some counter from 1 to the budget passes
 --     none-exactly        signing answers 8 exactly if its inputs pass their tests and no counter from 1 to the budget passes
--- They hold for every good set, the last where no high part leaves a signed byte. In set I none does (`set-I-high`, 41 is the
--- largest), and the three are stated for it at the end. What the names stand for is in the specs of `keys`, `signing` and `checking`.
+-- The first holds for every good set and the second for every set. The last two hold where no high part leaves a signed byte: then
+-- signing never answers 10 (`never-10`). In set I none does (`set-I-high`: 41 is the largest). All are stated for set I at the end.
+-- What the names stand for is in the specs of `keys`, `signing` and `checking`.
 -- Assumes nothing.
 use mathlib.Core.Path.{_≡_, refl, sym, ap, ap₂, subst, _∙_}
 use mathlib.Core.Bool.{Bool, true, false, cond, _&&_}
-use mathlib.Core.Logic.{_↔_}
+use mathlib.Core.Logic.{_⊎_, inl, inr, ⊎-elim, _↔_}
 use mathlib.Core.List.{List, []}
 use Prim.Native.Nat.{ℕ, zero, suc, _+_, _*_, _/_, _^_, _≤_, _<_}
 use native.Mathlib.Omega.{arith}
-use lib.Dec.{eqb, leb, lit≤}
+use lib.Dec.{eqb, leb, lit≤, lit<}
 use lib.ListN.{length}
 use lib.IntN.{ℤ, pos, negsuc, natAbs}
 use borrow.Author.Tests.{eqb-true, leb-true, lt-ltb}
@@ -34,7 +37,7 @@ use Rattle.records.specs.Signature.{signatureRecord}
 use Rattle.keys.specs.Key.{allKeyT, publicOf, secretOf, eachEPasses, makeKeyTests}
 use Rattle.signing.specs.Attempt.{Key, Outcome, passes, fails, overflows, attempt, tried, answered, attemptPasses, highsOf, vOf, zFrom}
 use Rattle.signing.specs.Search.{Found, found, none, overflow, search}
-use Rattle.signing.specs.SearchLaws.{Stopped, found-smallest, none-fails, fails-none}
+use Rattle.signing.specs.SearchLaws.{Stopped, found-smallest, none-fails, fails-none, overflow-somewhere}
 use Rattle.signing.specs.Sign.{keyOf, signTests, signSearch, signNumber, signSignature, signCounter}
 use Rattle.checking.specs.Check.{checkTests}
 use Rattle.demands.specs.Holds.{madeKey, accepted}
@@ -103,16 +106,16 @@ module _ (set : Numbers) (good : Good set) (s e seedA seedY : List ℕ) (a : Acc
       g : List ℕ
       g = keyDigest set (packedT set (allKeyT set s e seedA))
 
--- ---- signing with the record that key making makes
+-- ---- signing with a secret record
 
-module _ (set : Numbers) (s e seedA seedY message r : List ℕ) (budget signatureLength : ℕ) where
+module _ (set : Numbers) (secret message r : List ℕ) (budget signatureLength : ℕ) where
   -- the number of signing's tests, 0 if all pass
   abbrev pub tests : ℕ
-  tests = answer (signTests set (secretOf set s e seedA seedY) (length message) (length r) budget signatureLength)
+  tests = answer (signTests set secret (length message) (length r) budget signatureLength)
 
   -- what its search gives
   abbrev pub result : Found
-  result = signSearch set (secretOf set s e seedA seedY) message r budget
+  result = signSearch set secret message r budget
 
   -- what signing answers: the number, and the counter
   abbrev pub number : ℕ
@@ -121,15 +124,20 @@ module _ (set : Numbers) (s e seedA seedY message r : List ℕ) (budget signatur
   abbrev pub counter : ℕ
   counter = signCounter tests result
 
-  -- what a signature buffer holds afterwards
+  -- what a signature buffer that held `old` holds afterwards
   abbrev pub signature : List ℕ → List ℕ
   signature old = signSignature set tests result old
 
   -- attempt number j
   abbrev pub attempts : ℕ → Outcome
-  attempts =
-      attempt set (keyOf set (secretOf set s e seedA seedY)) (messageDigest set message)
-      (randOf set (secretSeedY set (secretOf set s e seedA seedY)) r (messageDigest set message))
+  attempts = attempt set (keyOf set secret) (messageDigest set message) (randOf set (secretSeedY set secret) r (messageDigest set message))
+
+  -- some attempt from 1 to the budget passes; none does
+  abbrev pub SomePasses : Type 0
+  SomePasses = (j : ℕ) × (z : List ℤ) × (c′ : List ℕ) × (1 ≤ j) × (j < 1 + budget) × (attempts j ≡ passes z c′)
+
+  abbrev pub NonePasses : Type 0
+  NonePasses = (j : ℕ) → 1 ≤ j → j < 1 + budget → (z : List ℤ) (c′ : List ℕ) → attempts j ≡ passes z c′ → ⊥
 
 -- ---- signing answered a signature
 
@@ -156,55 +164,79 @@ search-none zero none e h = refl
 search-none zero overflow e h = absurd (omega arith)
 search-none (suc refusal) f e h = absurd (omega arith)
 
-module _ (set : Numbers) (s e seedA seedY message r : List ℕ) (budget signatureLength : ℕ) where
-  short : tests set s e seedA seedY message r budget signatureLength ≡ 0 → length message ≤ messageLimit
+search-overflow : (refusal : ℕ) (f : Found) → refusal ≤ 7 → signNumber refusal f ≡ 10 → f ≡ overflow
+search-overflow zero (found counter z c′) l h = absurd (omega arith)
+search-overflow zero none l h = absurd (omega arith)
+search-overflow zero overflow l h = refl
+search-overflow (suc refusal) f l h = absurd (omega arith)
+
+-- the numbers of the tests are at most 7, so 8 says that they passed
+tests-passed : (refusal : ℕ) (f : Found) → refusal ≤ 7 → signNumber refusal f ≡ 8 → refusal ≡ 0
+tests-passed zero f l h = refl
+tests-passed (suc refusal) f l h = absurd (omega arith)
+
+module _ (set : Numbers) (secret message r : List ℕ) (budget signatureLength : ℕ) where
+  short : tests set secret message r budget signatureLength ≡ 0 → length message ≤ messageLimit
   unfolding signTests
   short h =
       leb-true (length message) messageLimit
       (answer-first (leb (length message) messageLimit) 2 _ (answer-rest _ 1 _ (answer-rest _ 0 _ h)))
 
-  -- the attempt that was found is the smallest that passes
-  stopped : (f : Signed set (tests set s e seedA seedY message r budget signatureLength) (result set s e seedA seedY message r budget signatureLength)) → Stopped (attempts set s e seedA seedY message r budget signatureLength) budget 1 (f .at) (passes (f .z) (f .c′))
-  unfolding signSearch
-  stopped f = found-smallest (attempts set s e seedA seedY message r budget signatureLength) budget 1 (f .at) (f .z) (f .c′) (f .is)
+  numbers-most : tests set secret message r budget signatureLength ≤ 7
+  unfolding signTests every
+  numbers-most = answer-most 7 (signTests set secret (length message) (length r) budget signatureLength) refl
 
-  -- What the signer issues, the checker accepts.
+  -- the attempt that was found is the smallest that passes
+  stopped : (f : Signed set (tests set secret message r budget signatureLength) (result set secret message r budget signatureLength)) → Stopped (attempts set secret message r budget signatureLength) budget 1 (f .at) (passes (f .z) (f .c′))
+  unfolding signSearch
+  stopped f = found-smallest (attempts set secret message r budget signatureLength) budget 1 (f .at) (f .z) (f .c′) (f .is)
+
+  -- The counter answered is that of the smallest attempt that passes, and its z and c' are what is written.
+  pub smallest-counter : number set secret message r budget signatureLength ≡ 0
+      → (z : List ℤ) × (c′ : List ℕ) × Stopped (attempts set secret message r budget signatureLength) budget 1 (counter set secret message r budget signatureLength) (passes z c′)
+      × ((old : List ℕ) → signature set secret message r budget signatureLength old ≡ signatureRecord set z c′)
+  smallest-counter signed =
+      (f .z, f .c′, subst (λ (j : ℕ). Stopped (attempts set secret message r budget signatureLength) budget 1 j (passes (f .z) (f .c′))) (sym (f .counted)) (stopped f), f .written)
+    where
+      f : Signed set (tests set secret message r budget signatureLength) (result set secret message r budget signatureLength)
+      f = signed-is set (tests set secret message r budget signatureLength) (result set secret message r budget signatureLength) signed
+
+  -- where the answer is 8 every attempt fails, and where every attempt fails it is 8
+  none-fails-all : number set secret message r budget signatureLength ≡ 8 → tests set secret message r budget signatureLength ≡ 0 → (j : ℕ) → 1 ≤ j → j < 1 + budget → attempts set secret message r budget signatureLength j ≡ fails
+  unfolding signSearch
+  none-fails-all h t = none-fails (attempts set secret message r budget signatureLength) budget 1 (search-none (tests set secret message r budget signatureLength) (result set secret message r budget signatureLength) t h)
+
+  all-fail-none : tests set secret message r budget signatureLength ≡ 0 → ((j : ℕ) → 1 ≤ j → j < 1 + budget → attempts set secret message r budget signatureLength j ≡ fails) → number set secret message r budget signatureLength ≡ 8
+  unfolding signSearch
+  all-fail-none t h = ap₂ signNumber t (fails-none (attempts set secret message r budget signatureLength) budget 1 h)
+
+  overflow-attempt : number set secret message r budget signatureLength ≡ 10 → (j : ℕ) × (attempts set secret message r budget signatureLength j ≡ overflows)
+  unfolding signSearch
+  overflow-attempt h = overflow-somewhere (attempts set secret message r budget signatureLength) budget 1 (search-overflow (tests set secret message r budget signatureLength) (result set secret message r budget signatureLength) numbers-most h)
+
+-- ---- what the signer issues, the checker accepts
+
+module _ (set : Numbers) (s e seedA seedY message r : List ℕ) (budget signatureLength : ℕ) where
   pub demand-3 : Good set → (publicLength secretLength : ℕ) (old : List ℕ)
       → answer (makeKeyTests set s e seedA seedY publicLength secretLength) ≡ 0
-      → number set s e seedA seedY message r budget signatureLength ≡ 0
-      → answer (checkTests set (publicOf set s e seedA) message (signature set s e seedA seedY message r budget signatureLength old)) ≡ 0
+      → number set (secretOf set s e seedA seedY) message r budget signatureLength ≡ 0
+      → answer (checkTests set (publicOf set s e seedA) message (signature set (secretOf set s e seedA seedY) message r budget signatureLength old)) ≡ 0
   demand-3 good publicLength secretLength old made signed =
       ap (λ (x : List ℕ). answer (checkTests set (publicOf set s e seedA) message x)) (f .written old)
-      ∙ accepted set good s e seedA message (a .e-long) (a .seedA-long) (a .checkE) (short (f .passed)) rand (f .at) (f .z) (f .c′)
-      (ap (λ (k : Key). attempt set k (messageDigest set message) rand (f .at)) (sym (same-key set good s e seedA seedY a)) ∙ stopped f .here)
+      ∙ accepted set good s e seedA message (a .e-long) (a .seedA-long) (a .checkE) (short set secret message r budget signatureLength (f .passed)) rand (f .at) (f .z) (f .c′)
+      (ap (λ (k : Key). attempt set k (messageDigest set message) rand (f .at)) (sym (same-key set good s e seedA seedY a)) ∙ stopped set secret message r budget signatureLength f .here)
     where
+      secret : List ℕ
+      secret = secretOf set s e seedA seedY
+
       a : Accepted set s e seedA seedY
       a = key-accepted set s e seedA seedY publicLength secretLength made
 
       rand : List ℕ
-      rand = randOf set (secretSeedY set (secretOf set s e seedA seedY)) r (messageDigest set message)
+      rand = randOf set (secretSeedY set secret) r (messageDigest set message)
 
-      f : Signed set (tests set s e seedA seedY message r budget signatureLength) (result set s e seedA seedY message r budget signatureLength)
-      f = signed-is set (tests set s e seedA seedY message r budget signatureLength) (result set s e seedA seedY message r budget signatureLength) signed
-
-  -- The counter answered is that of the smallest attempt that passes, and its z and c' are what is written.
-  pub smallest-counter : number set s e seedA seedY message r budget signatureLength ≡ 0
-      → (z : List ℤ) × (c′ : List ℕ) × Stopped (attempts set s e seedA seedY message r budget signatureLength) budget 1 (counter set s e seedA seedY message r budget signatureLength) (passes z c′)
-      × ((old : List ℕ) → signature set s e seedA seedY message r budget signatureLength old ≡ signatureRecord set z c′)
-  smallest-counter signed =
-      (f .z, f .c′, subst (λ (j : ℕ). Stopped (attempts set s e seedA seedY message r budget signatureLength) budget 1 j (passes (f .z) (f .c′))) (sym (f .counted)) (stopped f), f .written)
-    where
-      f : Signed set (tests set s e seedA seedY message r budget signatureLength) (result set s e seedA seedY message r budget signatureLength)
-      f = signed-is set (tests set s e seedA seedY message r budget signatureLength) (result set s e seedA seedY message r budget signatureLength) signed
-
-  -- where the answer is 8 every attempt fails, and where every attempt fails it is 8
-  none-fails-all : number set s e seedA seedY message r budget signatureLength ≡ 8 → tests set s e seedA seedY message r budget signatureLength ≡ 0 → (j : ℕ) → 1 ≤ j → j < 1 + budget → attempts set s e seedA seedY message r budget signatureLength j ≡ fails
-  unfolding signSearch
-  none-fails-all h t = none-fails (attempts set s e seedA seedY message r budget signatureLength) budget 1 (search-none (tests set s e seedA seedY message r budget signatureLength) (result set s e seedA seedY message r budget signatureLength) t h)
-
-  all-fail-none : tests set s e seedA seedY message r budget signatureLength ≡ 0 → ((j : ℕ) → 1 ≤ j → j < 1 + budget → attempts set s e seedA seedY message r budget signatureLength j ≡ fails) → number set s e seedA seedY message r budget signatureLength ≡ 8
-  unfolding signSearch
-  all-fail-none t h = ap₂ signNumber t (fails-none (attempts set s e seedA seedY message r budget signatureLength) budget 1 h)
+      f : Signed set (tests set secret message r budget signatureLength) (result set secret message r budget signatureLength)
+      f = signed-is set (tests set secret message r budget signatureLength) (result set secret message r budget signatureLength) signed
 
 -- ---- no high part leaves a signed byte
 
@@ -244,7 +276,7 @@ never-overflows set q-some h key digest rand counter e =
 pub set-I-high : highMost setI ≡ 41
 set-I-high = refl
 
--- ---- 8 exactly where no counter passes
+-- ---- a signature exactly where some counter passes, and 8 exactly where none does
 
 -- an attempt that neither passes nor overflows fails
 must-fail : (o : Outcome) → (o ≡ overflows → ⊥) → ((z : List ℤ) (c′ : List ℕ) → o ≡ passes z c′ → ⊥) → o ≡ fails
@@ -255,41 +287,66 @@ must-fail overflows h g = absurd (h refl)
 passes-not-fails : (o : Outcome) (z : List ℤ) (c′ : List ℕ) → o ≡ passes z c′ → o ≡ fails → ⊥
 passes-not-fails o z c′ p q = let x : _≡_ {A = ℕ} 0 1 = cc in omega arith
 
-tests-passed : (refusal : ℕ) (f : Found) → refusal ≤ 7 → signNumber refusal f ≡ 8 → refusal ≡ 0
-tests-passed zero f l h = refl
-tests-passed (suc refusal) f l h = absurd (omega arith)
+-- what a search can give
+three : (f : Found) → (signNumber 0 f ≡ 0) ⊎ ((signNumber 0 f ≡ 8) ⊎ (signNumber 0 f ≡ 10))
+three (found counter z c′) = inl refl
+three none = inr (inl refl)
+three overflow = inr (inr refl)
 
-module _ (set : Numbers) (s e seedA seedY message r : List ℕ) (budget signatureLength : ℕ) where
-  -- no attempt from 1 to the budget passes
-  abbrev pub NonePasses : Type 0
-  NonePasses = (j : ℕ) → 1 ≤ j → j < 1 + budget → (z : List ℤ) (c′ : List ℕ) → attempts set s e seedA seedY message r budget signatureLength j ≡ passes z c′ → ⊥
+module _ (set : Numbers) (q-some : 0 < set .q) (fit : highMost set ≤ 127) (secret message r : List ℕ) (budget signatureLength : ℕ) where
+  pub never-10 : number set secret message r budget signatureLength ≡ 10 → ⊥
+  never-10 h = never-overflows set q-some fit _ _ _ _ (overflow-attempt set secret message r budget signatureLength h .1)
 
-  numbers-most : tests set s e seedA seedY message r budget signatureLength ≤ 7
-  unfolding signTests every
-  numbers-most = answer-most 7 (signTests set (secretOf set s e seedA seedY) (length message) (length r) budget signatureLength) refl
-
-  pub none-exactly : Good set → highMost set ≤ 127 → (number set s e seedA seedY message r budget signatureLength ≡ 8) ↔ ((tests set s e seedA seedY message r budget signatureLength ≡ 0) × NonePasses)
-  none-exactly good fit = (only, given)
+  pub none-exactly : (number set secret message r budget signatureLength ≡ 8) ↔ ((tests set secret message r budget signatureLength ≡ 0) × NonePasses set secret message r budget signatureLength)
+  none-exactly = (only, given)
     where
-      only : number set s e seedA seedY message r budget signatureLength ≡ 8 → (tests set s e seedA seedY message r budget signatureLength ≡ 0) × NonePasses
+      only : number set secret message r budget signatureLength ≡ 8 → (tests set secret message r budget signatureLength ≡ 0) × NonePasses set secret message r budget signatureLength
       only h =
-          let t = tests-passed (tests set s e seedA seedY message r budget signatureLength) (result set s e seedA seedY message r budget signatureLength) numbers-most h in
-          (t, λ j l m z c′ p. passes-not-fails (attempts set s e seedA seedY message r budget signatureLength j) z c′ p (none-fails-all set s e seedA seedY message r budget signatureLength h t j l m))
+          let t = tests-passed (tests set secret message r budget signatureLength) (result set secret message r budget signatureLength) (numbers-most set secret message r budget signatureLength) h in
+          (t, λ j l m z c′ p. passes-not-fails (attempts set secret message r budget signatureLength j) z c′ p (none-fails-all set secret message r budget signatureLength h t j l m))
 
-      given : (tests set s e seedA seedY message r budget signatureLength ≡ 0) × NonePasses → number set s e seedA seedY message r budget signatureLength ≡ 8
+      given : (tests set secret message r budget signatureLength ≡ 0) × NonePasses set secret message r budget signatureLength → number set secret message r budget signatureLength ≡ 8
       given h =
-          all-fail-none set s e seedA seedY message r budget signatureLength (h .0)
-          (λ j l m. must-fail (attempts set s e seedA seedY message r budget signatureLength j) (never-overflows set (omega (arith, good .q-large)) fit _ _ _ j) (h .1 j l m))
+          all-fail-none set secret message r budget signatureLength (h .0)
+          (λ j l m. must-fail (attempts set secret message r budget signatureLength j) (never-overflows set q-some fit _ _ _ j) (h .1 j l m))
+
+  pub signed-exactly : (number set secret message r budget signatureLength ≡ 0) ↔ ((tests set secret message r budget signatureLength ≡ 0) × SomePasses set secret message r budget signatureLength)
+  signed-exactly = (only, given)
+    where
+      only : number set secret message r budget signatureLength ≡ 0 → (tests set secret message r budget signatureLength ≡ 0) × SomePasses set secret message r budget signatureLength
+      only h =
+          let f = signed-is set (tests set secret message r budget signatureLength) (result set secret message r budget signatureLength) h in
+          let w = stopped set secret message r budget signatureLength f in
+          (f .passed, (f .at, f .z, f .c′, w .inside-low, w .inside-high, w .here))
+
+      given : (tests set secret message r budget signatureLength ≡ 0) × SomePasses set secret message r budget signatureLength → number set secret message r budget signatureLength ≡ 0
+      given h = ⊎-elim (λ e. is e) (⊎-elim (λ e. absurd (none-passes (is e))) (λ e. absurd (never-10 (is e)))) (three (result set secret message r budget signatureLength))
+        where
+          is : {m : ℕ} → signNumber 0 (result set secret message r budget signatureLength) ≡ m → number set secret message r budget signatureLength ≡ m
+          is e = ap (λ (t : ℕ). signNumber t (result set secret message r budget signatureLength)) (h .0) ∙ e
+
+          none-passes : number set secret message r budget signatureLength ≡ 8 → ⊥
+          none-passes e = none-exactly .0 e .1 (h .1 .0) (h .1 .3) (h .1 .4) (h .1 .1) (h .1 .2) (h .1 .5)
 
 -- ---- in set I
 
-module _ (s e seedA seedY message r : List ℕ) (budget signatureLength : ℕ) where
-  pub set-I-accepts : (publicLength secretLength : ℕ) (old : List ℕ)
+module _ (message r : List ℕ) (budget signatureLength : ℕ) where
+  pub set-I-accepts : (s e seedA seedY : List ℕ) (publicLength secretLength : ℕ) (old : List ℕ)
       → answer (makeKeyTests setI s e seedA seedY publicLength secretLength) ≡ 0
-      → number setI s e seedA seedY message r budget signatureLength ≡ 0
-      → answer (checkTests setI (publicOf setI s e seedA) message (signature setI s e seedA seedY message r budget signatureLength old)) ≡ 0
-  set-I-accepts = demand-3 setI s e seedA seedY message r budget signatureLength setI-good
+      → number setI (secretOf setI s e seedA seedY) message r budget signatureLength ≡ 0
+      → answer (checkTests setI (publicOf setI s e seedA) message (signature setI (secretOf setI s e seedA seedY) message r budget signatureLength old)) ≡ 0
+  set-I-accepts s e seedA seedY = demand-3 setI s e seedA seedY message r budget signatureLength setI-good
 
-  pub set-I-none : (number setI s e seedA seedY message r budget signatureLength ≡ 8)
-      ↔ ((tests setI s e seedA seedY message r budget signatureLength ≡ 0) × NonePasses setI s e seedA seedY message r budget signatureLength)
-  set-I-none = none-exactly setI s e seedA seedY message r budget signatureLength setI-good (lit≤ tt)
+  module _ (secret : List ℕ) where
+    pub set-I-smallest : number setI secret message r budget signatureLength ≡ 0
+        → (z : List ℤ) × (c′ : List ℕ) × Stopped (attempts setI secret message r budget signatureLength) budget 1 (counter setI secret message r budget signatureLength) (passes z c′)
+        × ((old : List ℕ) → signature setI secret message r budget signatureLength old ≡ signatureRecord setI z c′)
+    set-I-smallest = smallest-counter setI secret message r budget signatureLength
+
+    pub set-I-signed : (number setI secret message r budget signatureLength ≡ 0)
+        ↔ ((tests setI secret message r budget signatureLength ≡ 0) × SomePasses setI secret message r budget signatureLength)
+    set-I-signed = signed-exactly setI (lit< tt) (lit≤ tt) secret message r budget signatureLength
+
+    pub set-I-none : (number setI secret message r budget signatureLength ≡ 8)
+        ↔ ((tests setI secret message r budget signatureLength ≡ 0) × NonePasses setI secret message r budget signatureLength)
+    set-I-none = none-exactly setI (lit< tt) (lit≤ tt) secret message r budget signatureLength

@@ -3,24 +3,26 @@
 -- accepts is opened (`envelope-opens`).
 -- Assumes nothing.
 use mathlib.Core.Path.{_≡_, refl, sym, ap, ap₂, _∙_}
-use mathlib.Core.Bool.{true}
+use mathlib.Core.Bool.{Bool, true, _&&_}
 use mathlib.Core.List.{List, [], _∷_, _++_}
 use Prim.Native.Nat.{ℕ, suc, _+_, _*_, _/_, _%_, _≤_, _<_}
 use native.Mathlib.Omega.{arith}
+use lib.Dec.{eqb, leb}
 use lib.ListN.{length, getD, take, drop, length-append}
 use lib.Seq.{take-all, take-at, drop-cons}
-use borrow.Author.Tests.{eq-eqb, eqb-true, le-leb}
+use borrow.Author.Tests.{eq-eqb, eqb-true, le-leb, leb-true}
 use Rattle.whole.specs.Below.{Below}
 use Rattle.whole.specs.Parts.{part-length, part-second, part-last, parts-join}
 use Rattle.whole.specs.Refusal.{answer}
-use Rattle.whole.specs.RefusalLaws.{answer-pass, answer-first, answer-rest}
+use Rattle.whole.specs.RefusalLaws.{answer-pass, answer-none, answer-first, answer-rest, both-first, both-second}
 use Rattle.sets.specs.declared.Numbers.{Numbers}
 use Rattle.sets.specs.Limits.{messageLimit}
 use Rattle.sampling.specs.Streams.{twoBytes}
 use Rattle.records.specs.Layout.{mark, marked, stretch, signatureBytes}
 use Rattle.records.specs.PublicLaws.{marked-mark, marked-front}
+use Rattle.records.specs.Signature.{zOf, zInRange}
 use Rattle.checking.specs.Check.{checkTests}
-use Rattle.envelope.specs.Envelope.{headBytes, envelopeBytes, envelopeOf, numberAt, teamOf, lengthOf, rosterOf, signatureOf, headTests, openTests}
+use Rattle.envelope.specs.Envelope.{headBytes, envelopeBytes, envelopeOf, numberAt, teamOf, lengthOf, rosterOf, signatureOf, headTests, readTests, openTests, writeTests}
 
 -- ---- what is written reads back
 
@@ -80,6 +82,57 @@ module _ (s : Numbers) (team : ℕ) (roster signature : List ℕ) where
       ∙ answer-pass 1 _ (eq-eqb _ _ (envelope-bytes e ∙ ap (envelopeBytes s) (sym (envelope-length (omega arith)))))
       ∙ ap₂ (λ (m g : List ℕ). answer (checkTests s public m g)) (envelope-roster (omega arith)) (envelope-signature (omega arith) e)
       ∙ accepted
+
+-- ---- an envelope that was written is read
+
+-- what writing's tests say
+pub record Writable (s : Numbers) (roster signature : List ℕ) (envelopeLength : ℕ) : Type 0 where
+  pub signature-long : length signature ≡ signatureBytes s
+  pub envelope-long : envelopeLength ≡ envelopeBytes s (length roster)
+  pub signature-mark : marked s 3 signature ≡ true
+  pub short : length roster ≤ messageLimit
+  pub z-passes : zInRange s (zOf s signature) ≡ true
+
+pub writable : (s : Numbers) (roster signature : List ℕ) (envelopeLength : ℕ) → answer (writeTests s roster signature envelopeLength) ≡ 0 → Writable s roster signature envelopeLength
+unfolding writeTests
+writable s roster signature envelopeLength h =
+    record {
+      signature-long = eqb-true (length signature) (signatureBytes s) (both-first b₁ b₂ lengths);
+      envelope-long = eqb-true envelopeLength (envelopeBytes s (length roster)) (both-second b₁ b₂ lengths);
+      signature-mark = answer-first _ 1 _ (answer-rest _ 0 _ h);
+      short = leb-true (length roster) messageLimit (answer-first (leb (length roster) messageLimit) 2 _ (answer-rest _ 1 _ (answer-rest _ 0 _ h)));
+      z-passes = answer-first _ 8 _ (answer-rest _ 2 _ (answer-rest _ 1 _ (answer-rest _ 0 _ h)));
+    }
+  where
+    b₁ : Bool
+    b₁ = eqb (length signature) (signatureBytes s)
+
+    b₂ : Bool
+    b₂ = eqb envelopeLength (envelopeBytes s (length roster))
+
+    lengths : (b₁ && b₂) ≡ true
+    lengths = answer-first _ 0 _ h
+
+pub envelope-reads : (s : Numbers) (team : ℕ) (roster signature : List ℕ) (envelopeLength : ℕ)
+    → answer (writeTests s roster signature envelopeLength) ≡ 0 → answer (readTests s (envelopeOf s team roster signature)) ≡ 0
+unfolding readTests headTests
+envelope-reads s team roster signature envelopeLength h =
+    answer-pass 1 _ (le-leb headBytes (length (envelopeOf s team roster signature)) (omega (arith, envelope-bytes s team roster signature (w .signature-long))))
+    ∙ answer-pass 2 _ (envelope-marked s team roster signature)
+    ∙ answer-pass 3 _ (le-leb (lengthOf (envelopeOf s team roster signature)) messageLimit (omega (arith, envelope-length s team roster signature inside, w .short)))
+    ∙ answer-pass 1 _ (eq-eqb _ _ (envelope-bytes s team roster signature (w .signature-long) ∙ ap (envelopeBytes s) (sym (envelope-length s team roster signature inside))))
+    ∙ answer-pass 2 _ (ap (marked s 3) back-is ∙ w .signature-mark)
+    ∙ answer-pass 9 _ (ap (λ (x : List ℕ). zInRange s (zOf s x)) back-is ∙ w .z-passes)
+    ∙ answer-none
+  where
+    w : Writable s roster signature envelopeLength
+    w = writable s roster signature envelopeLength h
+
+    inside : length roster < 65536
+    inside = omega (arith, w .short)
+
+    back-is : signatureOf s (envelopeOf s team roster signature) ≡ signature
+    back-is = envelope-signature s team roster signature inside (w .signature-long)
 
 -- ---- what reads is what would be written
 

@@ -1,5 +1,6 @@
 -- What a set's numbers have to satisfy: the conditions on which the ring, rounding, packing, sampling and demand 3 rest.
--- Every theorem over a set is proved from these alone; a set is added by proving them of its numbers.
+-- A set is added by proving them of its numbers. One theorem asks more: that signing never answers 10 rests on the bound on the high
+-- part, which is computed from q and d.
 -- Assumes nothing: these are definitions.
 use mathlib.Core.Path.{_≡_}
 use Prim.Native.Nat.{_+_, _*_, _-_, _%_, _^_, _≤_, _<_}
@@ -16,7 +17,7 @@ pub record Good (s : Numbers) : Type 0 where
   pub q-odd : s .q % 2 ≡ 1
   -- ring, rounding: sums of two residues fit 32 bits, products 62
   pub q-small : s .q < 2 ^ 31
-  -- ring: a signed byte is less than q in size
+  -- ring: a signed byte is at most q in size
   pub q-large : 128 ≤ s .q
   -- sampling, packing: every residue fits its width, and a candidate less q is a residue
   pub t-fits : s .q ≤ 2 ^ s .«t_bits»
@@ -28,13 +29,14 @@ pub record Good (s : Numbers) : Type 0 where
   -- sampling: y + b fits its width, and a candidate less 2b + 1 is at most 2b
   pub y-fits : 2 * s .b + 1 ≤ 2 ^ s .«z_bits»
   pub y-once : 2 ^ s .«z_bits» ≤ 2 * (2 * s .b + 1)
-  -- ring: y and z are less than q in size
+  -- ring: y and z are at most q in size
   pub b-small : s .b ≤ s .q
   -- packing: z from −(b − s) to b − s is in the range of its width
   pub z-some : s .s ≤ s .b
   pub z-fits : s .b - s .s < 2 ^ (s .«z_bits» - 1)
   pub z-byte : 8 ≤ s .«z_bits»
-  pub z-word : s .«z_bits» ≤ 32
+  -- sampling: a candidate of 3 bytes holds y
+  pub z-word : s .«z_bits» ≤ 24
   pub z-whole : s .«z_bits» * s .n % 8 ≡ 0
   -- sampling: h positions can be drawn, from 256 candidates
   pub h-inside : s .h ≤ s .n

@@ -8,7 +8,7 @@ use native.Mathlib.Omega.{arith}
 use lib.IntN.{ℤ}
 use Rattle.whole.specs.Int.{lt-or-le}
 use Rattle.signing.specs.Attempt.{Outcome, passes, fails, overflows}
-use Rattle.signing.specs.Search.{found, none, next, searchFrom}
+use Rattle.signing.specs.Search.{found, none, overflow, next, searchFrom}
 
 -- the search stopped at `counter`: the attempts from `from` up to it fail, and it is one of `left` counters from `from` on
 pub record Stopped (attempt : ℕ → Outcome) (left from counter : ℕ) (at : Outcome) : Type 0 where
@@ -54,6 +54,12 @@ module _ (attempt : ℕ → Outcome) (left from : ℕ) where
       ⊎-elim (λ lt. later e j lt (omega arith)) (λ le. subst (λ (i : ℕ). attempt i ≡ fails) (omega arith) h) (lt-or-le from j)
   none-step later overflows h e j l m = absurd (let x : _≡_ {A = ℕ} 0 1 = cc in omega arith)
 
+  overflow-step : (searchFrom attempt left (suc from) ≡ overflow → (j : ℕ) × (attempt j ≡ overflows))
+      → (o : Outcome) → attempt from ≡ o → next o from (searchFrom attempt left (suc from)) ≡ overflow → (j : ℕ) × (attempt j ≡ overflows)
+  overflow-step later (passes y d) h e = absurd (let x : _≡_ {A = ℕ} 0 1 = cc in omega arith)
+  overflow-step later fails h e = later e
+  overflow-step later overflows h e = (from, h)
+
 -- what is found is the smallest counter that passes, with that attempt's z and c'
 pub found-smallest : (attempt : ℕ → Outcome) (left from counter : ℕ) (z : List ℤ) (c′ : List ℕ)
     → searchFrom attempt left from ≡ found counter z c′ → Stopped attempt left from counter (passes z c′)
@@ -77,3 +83,9 @@ fails-none attempt zero from h = refl
 fails-none attempt (suc left) from h =
     ap (λ (o : Outcome). next o from (searchFrom attempt left (suc from))) (h from (omega arith) (omega arith))
     ∙ fails-none attempt left (suc from) (λ j l m. h j (omega arith) (omega arith))
+
+-- the search ends in an overflow only where an attempt overflows
+pub overflow-somewhere : (attempt : ℕ → Outcome) (left from : ℕ) → searchFrom attempt left from ≡ overflow → (j : ℕ) × (attempt j ≡ overflows)
+unfolding searchFrom
+overflow-somewhere attempt zero from e = absurd (let x : _≡_ {A = ℕ} 0 1 = cc in omega arith)
+overflow-somewhere attempt (suc left) from e = overflow-step attempt left from (overflow-somewhere attempt left (suc from)) (attempt from) refl e
