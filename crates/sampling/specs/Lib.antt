@@ -2,9 +2,17 @@ pub mod Candidates
 pub mod Values
 pub mod Positions
 pub mod Streams
+pub mod Lent
+pub mod Asks
+pub mod Stored
+pub mod Answers
+pub mod DrawnAsks
+pub mod DrawA
 pub mod CandidatesLaws
 pub mod ValuesLaws
 pub mod FreeLaws
 pub mod PositionsLaws
 pub mod SparseLaws
 pub mod StreamsLaws
+pub mod SpongeLaws
+pub mod DrawALaws

@@ -2,7 +2,7 @@
 -- position is taken already is skipped if at least as many candidates remain after it as positions are still needed; otherwise
 -- the next free position upward, from n − 1 on to 0, gets its sign. Positions are answered in the order drawn.
 -- Assumes nothing: these are definitions.
-use mathlib.Core.Bool.{Bool, false, cond, not, _||_}
+use mathlib.Core.Bool.{Bool, true, false, cond, not, _||_}
 use mathlib.Core.List.{List, [], _∷_, map}
 use Prim.Native.Nat.{ℕ, zero, suc, _+_, _/_, _%_, _^_}
 use lib.Dec.{ltb, eqb}

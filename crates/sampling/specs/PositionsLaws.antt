@@ -30,6 +30,10 @@ use Rattle.sampling.specs.FreeLaws.{Distinct, in-here, in-cases, in-move
 
 -- ---- a stretch
 
+-- a position with its sign
+abbrev pub drawnAs : ℕ → ℤ → Drawn
+drawnAs p s = record { position = p; sign = s }
+
 -- candidate c at the next free position
 abbrev pub placed : ℕ → List ℕ → Drawn → Drawn
 placed n ps c = record { position = free n n (c .position) ps; sign = c .sign }

@@ -57,12 +57,13 @@ drawn-below : (range need size bits : ℕ) (bytes : List ℕ) → 2 ^ bits ≤ 2
 drawn-below range need size bits bytes h =
     values-below range need (candidates size bits bytes) (below-more (candidates size bits bytes) h (candidates-below size bits bytes))
 
--- values less b, where the range is 2b + 1
+-- a value from 0 to 2b, less b
+pub less-small : (b v : ℕ) → v ≤ 2 * b → natAbs (pos v -ℤ pos b) ≤ b
+less-small b v h = abs-le-from (pos v -ℤ pos b) b (omega (arith, minus-is (pos v) (pos b))) (omega (arith, minus-is (pos v) (pos b)))
+
 less-size : (b : ℕ) (vs : List ℕ) (i : ℕ) → Below (2 * b + 1) vs → natAbs (getD (map (λ (v : ℕ). pos v -ℤ pos b) vs) i (pos 0)) ≤ b
 less-size b [] i h = zero-le
-less-size b (v ∷ vs) zero h =
-    let l : v < 2 * b + 1 = h .at 0 (omega arith) in
-    abs-le-from (pos v -ℤ pos b) b (omega (arith, minus-is (pos v) (pos b))) (omega (arith, minus-is (pos v) (pos b)))
+less-size b (v ∷ vs) zero h = less-small b v (omega (arith, h .at 0 (omega arith)))
 less-size b (v ∷ vs) (suc i) h = less-size b vs i (below-tail h)
 
 -- the values drawn for y, and the candidates for c

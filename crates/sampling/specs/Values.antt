@@ -2,7 +2,7 @@
 -- of range is skipped if at least as many candidates remain after it as values are still needed; otherwise the range is
 -- subtracted from it and it is taken.
 -- Assumes nothing: these are definitions.
-use mathlib.Core.Bool.{Bool, cond, _||_}
+use mathlib.Core.Bool.{Bool, true, false, cond, _||_}
 use mathlib.Core.List.{List, [], _∷_}
 use Prim.Native.Nat.{ℕ, zero, suc, _-_}
 use lib.Dec.{ltb}

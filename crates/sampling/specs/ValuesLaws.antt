@@ -14,6 +14,7 @@ use Prim.Native.Nat.{ℕ, zero, suc, _+_, _-_, _*_, _≤_, _<_, zero-le, suc-le-
 use native.Mathlib.Nat.{le-refl, le-antisymm, add-zero, add-assoc, suc-sub-suc, sub-zero}
 use native.Mathlib.Omega.{arith}
 use lib.Dec.{ltb}
+use lib.IntN.{ℤ, pos, _-ℤ_}
 use lib.ListN.{length, length-append}
 use borrow.Author.Tests.{lt-ltb, le-ltb, ltb-true, ltb-false}
 use Rattle.whole.specs.Below.{Below, below-cons, below-tail}
@@ -27,6 +28,10 @@ part range zero later (c ∷ cs) = []
 part range (suc need) later (c ∷ cs) =
     emit (takesValue range (suc need) (length cs + later) c) (reduced range c)
     (part range (cond (takesValue range (suc need) (length cs + later) c) need (suc need)) later cs)
+
+-- a value less b
+abbrev pub lessOf : ℕ → ℕ → ℤ
+lessOf b v = pos v -ℤ pos b
 
 -- ---- one candidate
 

@@ -1,0 +1,73 @@
+-- The contracts of what is drawn and hashed from the sponge determine their outputs. Those of `start_a` and `next_a` determine the values that
+-- the stream that they answer still gives, and how many are needed, and not the struct: its state, and how many candidates are to come, may
+-- differ where the values are the same.
+-- Assumes nothing.
+use mathlib.Core.Path.{_≡_, sym, _∙_}
+use denote.Ref.{now}
+use denote.Triple.Clauses.{AtExit}
+use contract.Lifetimes.{Lfts}
+use borrow.Fn.Kinds.{Dens, resT, endedOf}
+use Rattle.whole.specs.Determined.{Output}
+use Rattle.sampling.specs.DrawA.{valuesLeft}
+use Rattle.sampling.proofs.digests.message_digest.Kinds as message-digest-kinds
+use Rattle.sampling.proofs.digests.message_digest.Reads as message-digest
+use Rattle.sampling.proofs.digests.key_digest.Kinds as key-digest-kinds
+use Rattle.sampling.proofs.digests.key_digest.Reads as key-digest
+use Rattle.sampling.proofs.digests.rand_of.Kinds as rand-of-kinds
+use Rattle.sampling.proofs.digests.rand_of.Reads as rand-of
+use Rattle.sampling.proofs.digests.challenge_of.Kinds as challenge-of-kinds
+use Rattle.sampling.proofs.digests.challenge_of.Reads as challenge-of
+use Rattle.sampling.proofs.drawn.draw_y.Kinds as draw-y-kinds
+use Rattle.sampling.proofs.drawn.draw_y.Reads as draw-y
+use Rattle.sampling.proofs.drawn.draw_enc.Kinds as draw-enc-kinds
+use Rattle.sampling.proofs.drawn.draw_enc.Reads as draw-enc
+use Rattle.sampling.proofs.drawn.start_a.Kinds as start-a-kinds
+use Rattle.sampling.proofs.drawn.start_a.Reads as start-a
+use Rattle.sampling.proofs.drawn.next_a.Kinds as next-a-kinds
+use Rattle.sampling.proofs.drawn.next_a.Reads as next-a
+
+-- ---- digests
+
+pub message-digest-determined : Output 2 message-digest-kinds.ps message-digest-kinds.r message-digest.Learnt (λ κs e. now (e .1 .1 .0))
+message-digest-determined κs a x y e f p q = p ∙ sym q
+
+pub key-digest-determined : Output 2 key-digest-kinds.ps key-digest-kinds.r key-digest.Learnt (λ κs e. now (e .1 .1 .0))
+key-digest-determined κs a x y e f p q = p ∙ sym q
+
+pub rand-of-determined : Output 4 rand-of-kinds.ps rand-of-kinds.r rand-of.Learnt (λ κs e. now (e .1 .1 .1 .1 .0))
+rand-of-determined κs a x y e f p q = p ∙ sym q
+
+pub challenge-of-determined : Output 3 challenge-of-kinds.ps challenge-of-kinds.r challenge-of.Learnt (λ κs e. now (e .1 .1 .1 .0))
+challenge-of-determined κs a x y e f p q = p ∙ sym q
+
+-- ---- y and c
+
+pub draw-y-determined : Output 2 draw-y-kinds.ps draw-y-kinds.r draw-y.Learnt (λ κs e. now (e .1 .1 .1 .0))
+draw-y-determined κs a x y e f p q = p ∙ sym q
+
+pub draw-enc-positions : Output 3 draw-enc-kinds.ps draw-enc-kinds.r draw-enc.Learnt (λ κs e. now (e .1 .1 .0))
+draw-enc-positions κs a x y e f p q = p .places-are ∙ sym (q .places-are)
+
+pub draw-enc-signs : Output 3 draw-enc-kinds.ps draw-enc-kinds.r draw-enc.Learnt (λ κs e. now (e .1 .1 .1 .0))
+draw-enc-signs κs a x y e f p q = p .signs-are ∙ sym (q .signs-are)
+
+-- ---- a_1..a_k
+
+pub start-a-values : (κs : Lfts 1) (a : Dens κs start-a-kinds.ps) (x y : resT start-a-kinds.r κs .Denot) (e f : AtExit (endedOf 1 start-a-kinds.ps start-a-kinds.r) κs)
+    → start-a.Learnt κs a x e → start-a.Learnt κs a y f → valuesLeft (a .0) x ≡ valuesLeft (a .0) y
+start-a-values κs a x y e f p q = p .all ∙ sym (q .all)
+
+pub start-a-need : (κs : Lfts 1) (a : Dens κs start-a-kinds.ps) (x y : resT start-a-kinds.r κs .Denot) (e f : AtExit (endedOf 1 start-a-kinds.ps start-a-kinds.r) κs)
+    → start-a.Learnt κs a x e → start-a.Learnt κs a y f → x .need ≡ y .need
+start-a-need κs a x y e f p q = p .need-is ∙ sym (q .need-is)
+
+pub next-a-determined : Output 1 next-a-kinds.ps next-a-kinds.r next-a.Learnt (λ κs e. now (e .1 .1 .0))
+next-a-determined κs a x y e f p q = p .written ∙ sym (q .written)
+
+pub next-a-values : (κs : Lfts 1) (a : Dens κs next-a-kinds.ps) (x y : resT next-a-kinds.r κs .Denot) (e f : AtExit (endedOf 1 next-a-kinds.ps next-a-kinds.r) κs)
+    → next-a.Learnt κs a x e → next-a.Learnt κs a y f → valuesLeft (a .0) x ≡ valuesLeft (a .0) y
+next-a-values κs a x y e f p q = p .rest ∙ sym (q .rest)
+
+pub next-a-need : (κs : Lfts 1) (a : Dens κs next-a-kinds.ps) (x y : resT next-a-kinds.r κs .Denot) (e f : AtExit (endedOf 1 next-a-kinds.ps next-a-kinds.r) κs)
+    → next-a.Learnt κs a x e → next-a.Learnt κs a y f → x .need ≡ y .need
+next-a-need κs a x y e f p q = p .need-is ∙ sym (q .need-is)

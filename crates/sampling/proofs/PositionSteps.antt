@@ -1,0 +1,213 @@
+-- The steps of taking positions: the sign of a candidate, a search among positions, the next free one, what becomes of one candidate,
+-- one candidate more of a stretch, and where the loop ends.
+-- Assumes nothing.
+use mathlib.Core.Path.{_≡_, refl, sym, ap, _∙_}
+use mathlib.Core.Logic.{⊎-elim}
+use mathlib.Core.Bool.{true, false}
+use mathlib.Core.List.{List, [], _∷_, _++_, append-nil}
+use Prim.Native.Nat.{ℕ, zero, suc, _+_, _-_, _*_, _/_, _%_, _≤_, _<_, zero-le}
+use native.Mathlib.Nat.{zero-add, le-of-eq, mod-self, mod-eq-of-lt}
+use native.Mathlib.Numerals.{add-one}
+use native.Mathlib.Omega.{arith}
+use lib.IntN.{ℤ, pos, negsuc}
+use lib.ListN.{length, getD, take, drop, take-append-drop, length-drop, length-map, drop-of-length-le}
+use lib.Seq.{take-suc, take-all, drop-cons, length-take-le, getD-take, getD-drop}
+use borrow.Author.Tests.{eq-eqb, ne-eqb}
+use Rattle.whole.specs.Int.{lt-or-le}
+use Rattle.whole.specs.Below.{Below}
+use Rattle.packing.specs.Digits.{value}
+use Rattle.packing.specs.Laws.{value-drop}
+use Rattle.sampling.specs.Candidates.{held, piece}
+use Rattle.sampling.specs.Positions.{Drawn, isIn, free, signOf, positionsOf}
+use Rattle.sampling.specs.Asks.{Upward}
+use Rattle.sampling.specs.Stored.{StoredDrawn, stored-length, stored-front, stored-drawn-none, stored-drawn-append}
+use Rattle.sampling.specs.PositionsLaws.{partPositions, placed, part-positions-none, part-positions-fresh, part-positions-repeated, part-positions-moved, part-positions-most, part-positions-append}
+use Rattle.sampling.proofs.CandidateSteps.{held-room}
+
+-- ---- the sign
+
+-- the third byte alone
+third : (stretch : List ℕ) (j : ℕ) → j < held 3 stretch → Below 256 stretch → piece 3 stretch j / 65536 ≡ getD stretch (3 * j + 2) 0
+unfolding value
+third stretch j h b = omega (arith, value-drop 8 0 bytes, value-drop 8 1 bytes, value-drop 8 2 bytes, nothing, byte 0 (omega arith), byte 1 (omega arith), byte 2 (omega arith), b .at (3 * j + 0) (omega (arith, room)), b .at (3 * j + 1) (omega (arith, room)))
+  where
+    bytes : List ℕ
+    bytes = take 3 (drop (3 * j) stretch)
+
+    room : 3 * j + 3 ≤ length stretch
+    room = held-room 3 j stretch h
+
+    byte : (k : ℕ) → k < 3 → getD bytes k 0 ≡ getD stretch (3 * j + k) 0
+    byte k l = getD-take 3 (drop (3 * j) stretch) k 0 l ∙ getD-drop (3 * j) stretch k 0
+
+    nothing : value 8 (drop 3 bytes) ≡ 0
+    nothing = rw (drop-of-length-le bytes (le-of-eq (length-take-le 3 (drop (3 * j) stretch) (omega (arith, room, length-drop (3 * j) stretch)))))
+
+module _ (stretch : List ℕ) (j : ℕ) (h : j < held 3 stretch) (b : Below 256 stretch) where
+  pub sign-set : getD stretch (3 * j + 2) 0 % 2 ≡ 1 → signOf (piece 3 stretch j / 65536) ≡ negsuc 0
+  sign-set e = rw (third stretch j h b, eq-eqb (getD stretch (3 * j + 2) 0 % 2) 1 e)
+
+  pub sign-clear : (getD stretch (3 * j + 2) 0 % 2 ≡ 1 → ⊥) → signOf (piece 3 stretch j / 65536) ≡ pos 1
+  sign-clear e = rw (third stretch j h b, ne-eqb (getD stretch (3 * j + 2) 0 % 2) 1 e)
+
+-- ---- a search from the front
+
+module _ (p : ℕ) (ps : List ℕ) (i : ℕ) where
+  pub in-found : i < length ps → getD ps i 0 ≡ p → isIn p (drop i ps) ≡ true
+  unfolding isIn
+  in-found h e = rw (drop-cons ps i 0 h, e, eq-eqb p p refl)
+
+  pub in-passed : i < length ps → (getD ps i 0 ≡ p → ⊥) → isIn p (drop i ps) ≡ isIn p (drop (i + 1) ps)
+  unfolding isIn
+  in-passed h e = rw (add-one i, drop-cons ps i 0 h, ne-eqb p (getD ps i 0) (λ q. e (sym q)))
+
+  pub in-none : length ps ≤ i → isIn p (drop i ps) ≡ false
+  unfolding isIn
+  in-none h = rw (drop-of-length-le ps h)
+
+-- ---- the next free position
+
+pub up : {n p r : ℕ} → p < n → Upward n p r → r ≡ (p + 1) % n
+up {n} {p} {r} h u = ⊎-elim (λ l. u .one l ∙ sym (mod-eq-of-lt l)) (λ l. u .around (top l) ∙ sym (rw (top l) (mod-self n))) (lt-or-le (p + 1) n)
+  where
+    top : n ≤ p + 1 → p + 1 ≡ n
+    top l = omega arith
+
+pub free-on : (n steps p : ℕ) (ps : List ℕ) → 0 < steps → isIn p ps ≡ true → free n steps p ps ≡ free n (steps - 1) ((p + 1) % n) ps
+unfolding free
+free-on n zero p ps h e = absurd (omega arith)
+free-on n (suc steps) p ps h e = rw (e, less-one steps)
+  where
+    less-one : (k : ℕ) → suc k - 1 ≡ k
+    less-one k = omega arith
+
+pub free-none : (n p : ℕ) (ps : List ℕ) → free n 0 p ps ≡ p
+unfolding free
+free-none n p ps = refl
+
+-- ---- one candidate, with `left` after it
+
+pub one-fresh : (n need left : ℕ) (ps : List ℕ) (c : Drawn) → 0 < need → isIn (c .position) ps ≡ false → partPositions n need left ps (c ∷ []) ≡ c ∷ []
+unfolding partPositions
+one-fresh n zero left ps c h e = absurd (omega arith)
+one-fresh n (suc need) left ps c h e = part-positions-fresh n need left ps c [] e
+
+pub one-moved : (n need left : ℕ) (ps : List ℕ) (c : Drawn) → 0 < need → isIn (c .position) ps ≡ true → left < need
+    → partPositions n need left ps (c ∷ []) ≡ placed n ps c ∷ []
+unfolding partPositions
+one-moved n zero left ps c h e l = absurd (omega arith)
+one-moved n (suc need) left ps c h e l = part-positions-moved n need left ps c [] e (rw (zero-add left) l)
+
+pub one-repeated : (n need left : ℕ) (ps : List ℕ) (c : Drawn) → 0 < need → isIn (c .position) ps ≡ true → need ≤ left
+    → partPositions n need left ps (c ∷ []) ≡ []
+unfolding partPositions
+one-repeated n zero left ps c h e l = absurd (omega arith)
+one-repeated n (suc need) left ps c h e l = part-positions-repeated n need left ps c [] e (rw (zero-add left) l)
+
+-- ---- a stretch
+
+module _ (n need later : ℕ) (ps : List ℕ) (cs : List Drawn) where
+  -- the first j candidates, with the others and `later` more after them
+  pub firstPositions : ℕ → List Drawn
+  firstPositions j = partPositions n need (length cs - j + later) ps (take j cs)
+
+  first-positions-none : firstPositions 0 ≡ []
+  unfolding partPositions firstPositions
+  first-positions-none = refl
+
+  first-positions-most : (j : ℕ) → length (firstPositions j) ≤ need
+  unfolding firstPositions
+  first-positions-most j = part-positions-most n need (length cs - j + later) ps (take j cs)
+
+  -- candidate j after them, with `left` after it, where m are still needed and those of qs are taken
+  first-positions-more : (j left m : ℕ) (c : Drawn) (qs : List ℕ) → j < length cs → c ≡ getD cs j c → left ≡ length cs - (j + 1) + later
+      → m + length (firstPositions j) ≡ need → qs ≡ ps ++ positionsOf (firstPositions j)
+      → firstPositions (j + 1) ≡ firstPositions j ++ partPositions n m left qs (c ∷ [])
+  unfolding firstPositions
+  first-positions-more j left m c qs h e f k q =
+      rw (← f, add-one j, take-suc cs j c h, ← e)
+      (part-positions-append n need left ps (take j cs) (c ∷ [])
+      ∙ rw (one-before, q) (ap (λ (i : ℕ). new ++ partPositions n i left (ps ++ positionsOf new) (c ∷ [])) needed))
+    where
+      new : List Drawn
+      new = partPositions n need (length cs - j + later) ps (take j cs)
+
+      one-before : 1 + left ≡ length cs - j + later
+      one-before = omega arith
+
+      needed : need - length new ≡ m
+      needed = omega arith
+
+  -- every candidate
+  first-positions-all : (j : ℕ) → length cs ≤ j → firstPositions j ≡ partPositions n need later ps cs
+  unfolding firstPositions
+  first-positions-all j h = rw (take-all j cs h) (ap (λ (k : ℕ). partPositions n need k ps cs) none)
+    where
+      none : length cs - j + later ≡ later
+      none = omega arith
+
+  -- nothing more is needed
+  first-positions-full : (j : ℕ) → need ≤ length (firstPositions j) → firstPositions j ≡ partPositions n need later ps cs
+  unfolding firstPositions
+  first-positions-full j e =
+      sym
+      (ap (partPositions n need later ps) (sym (take-append-drop j cs)) ∙ part-positions-append n need later ps (take j cs) (drop j cs)
+      ∙ rw (length-drop j cs, needed, part-positions-none n later (ps ++ positionsOf new) (drop j cs)) (append-nil new))
+    where
+      new : List Drawn
+      new = partPositions n need (length cs - j + later) ps (take j cs)
+
+      needed : need - length new ≡ 0
+      needed = omega arith
+
+-- ---- a loop over the candidates of a stretch
+
+-- what is taken of the first j candidates is stored
+pub record Drawing (n later : ℕ) (cs : List Drawn) (positions : List ℕ) (signs : List ℤ) (at : ℕ) (out : List ℕ) (marks : List ℤ) (next j : ℕ) : Type 0 where
+  pub near : j ≤ length cs
+  pub done : StoredDrawn (firstPositions n (length positions - at) later (take at positions) cs j) positions signs at out marks next
+
+module _ {n later at : ℕ} {cs : List Drawn} {positions : List ℕ} {signs : List ℤ} where
+  pub drawing-none : Drawing n later cs positions signs at positions signs at 0
+  drawing-none =
+      record {
+        near = zero-le;
+        done = rw (first-positions-none n (length positions - at) later (take at positions) cs) (stored-drawn-none positions signs refl);
+      }
+
+  module _ (within : at ≤ length positions) {out : List ℕ} {marks : List ℤ} {next j : ℕ} (t : Drawing n later cs positions signs at out marks next j) where
+    abbrev new : List Drawn
+    new = firstPositions n (length positions - at) later (take at positions) cs j
+
+    pub drawing-long : length out ≡ length positions
+    drawing-long = stored-length (t .done .places)
+
+    pub drawing-marks : length marks ≡ length signs
+    drawing-marks = stored-length (t .done .marks)
+
+    -- what is still needed
+    rest : next ≡ at + length new
+    rest = t .done .places .next-is ∙ ap (λ (k : ℕ). at + k) (length-map new (λ (d : Drawn). d .position))
+
+    pub drawing-near : next ≤ length positions
+    drawing-near = omega (arith, rest, first-positions-most n (length positions - at) later (take at positions) cs j)
+
+    -- candidate j, with `left` after it, where `need` are still needed
+    pub drawing-more : {last : List ℕ} {ends : List ℤ} {after left : ℕ} (need : ℕ) (c : Drawn) → j < length cs → c ≡ getD cs j c
+        → left ≡ length cs - (j + 1) + later → need + next ≡ length positions
+        → StoredDrawn (partPositions n need left (take next out) (c ∷ [])) out marks next last ends after
+        → Drawing n later cs positions signs at last ends after (j + 1)
+    drawing-more {last} {ends} {after} {left} need c h e f k s =
+        record {
+          near = omega arith;
+          done =
+              rw (first-positions-more n (length positions - at) later (take at positions) cs j left need c (take next out) h e f (omega (arith, rest)) (stored-front (t .done .places) drawing-near))
+              (stored-drawn-append (t .done) s);
+        }
+
+    pub drawing-all : length cs ≤ j → StoredDrawn (partPositions n (length positions - at) later (take at positions) cs) positions signs at out marks next
+    drawing-all h = rw (← first-positions-all n (length positions - at) later (take at positions) cs j h) (t .done)
+
+    pub drawing-full : length positions ≤ next
+        → StoredDrawn (partPositions n (length positions - at) later (take at positions) cs) positions signs at out marks next
+    drawing-full h = rw (← first-positions-full n (length positions - at) later (take at positions) cs j (omega (arith, rest))) (t .done)
