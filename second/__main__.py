@@ -5,13 +5,16 @@ crates, so that the two can be compared. From the repository's root:
 
     python3 second selfcheck    runs its own assertions; the last line counts them
     python3 second roster       the roster program: standard input to one line
+    python3 second vectors [DIR]    writes the vector programs' stdin and stdout below crates/, or DIR
+    python3 second vectors --check  compares those files with what it would write
 
 sets.py has the numbers of a set, answers.py the numbers that come back,
 sums.py the arithmetic, streams.py SHAKE256 and what is drawn from it,
-records.py, scheme.py and envelope.py the entries, program.py the line.
-checks/ holds the assertions.
+records.py, scheme.py and envelope.py the entries, program.py the line,
+vectors.py the vector programs' files. checks/ holds the assertions.
 """
 
+import os
 import sys
 
 sys.dont_write_bytecode = True   # running leaves no files behind
@@ -29,12 +32,22 @@ def roster():
     return 0
 
 
+def vectors(*where):
+    import vectors as programs
+    crates = os.path.join(os.path.dirname(os.path.dirname(os.path.abspath(__file__))), "crates")
+    if where == ("--check",):
+        return programs.check(crates)
+    return programs.write(*where or (crates,))
+
+
 def main(arguments):
-    commands = {"selfcheck": selfcheck, "roster": roster}
-    if len(arguments) != 1 or arguments[0] not in commands:
+    commands = {("selfcheck", 0): selfcheck, ("roster", 0): roster,
+                ("vectors", 0): vectors, ("vectors", 1): vectors}
+    command = commands.get((arguments[0], len(arguments) - 1)) if arguments else None
+    if command is None:
         sys.stderr.write(__doc__)
         return 2
-    return commands[arguments[0]]()
+    return command(*arguments[1:])
 
 
 if __name__ == "__main__":

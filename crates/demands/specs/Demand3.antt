@@ -20,7 +20,7 @@ use lib.ListN.{length}
 use lib.IntN.{ℤ, pos, negsuc, natAbs}
 use borrow.Author.Tests.{eqb-true, leb-true, lt-ltb}
 use Rattle.whole.specs.Refusal.{answer, every}
-use Rattle.whole.specs.RefusalLaws.{both-first, both-second, answer-first, answer-rest, every-joined, every-map, every-always, each-all, answer-most}
+use Rattle.whole.specs.RefusalLaws.{both-first, both-second, answer-first, answer-rest, every-joined, every-map, every-always, eachBelow-all, answer-most}
 use Rattle.rounding.specs.Parts.{high, high-bound}
 use Rattle.rounding.specs.Tests.{fitsByte}
 use Rattle.sets.specs.declared.Numbers.{Numbers}
@@ -32,7 +32,8 @@ use Rattle.sampling.specs.StreamsLaws.{shake-length}
 use Rattle.records.specs.Layout.{seedBytes, publicBytes, secretBytes}
 use Rattle.records.specs.Public.{packedT}
 use Rattle.records.specs.Secret.{secretSeedY}
-use Rattle.records.specs.SecretLaws.{SecretLengths, secret-s, secret-e, secret-seedA, secret-g}
+use Rattle.records.specs.SecretPlaces.{SecretLengths}
+use Rattle.records.specs.SecretLaws.{secret-s, secret-e, secret-seedA, secret-g}
 use Rattle.records.specs.Signature.{signatureRecord}
 use Rattle.keys.specs.Key.{allKeyT, publicOf, secretOf, eachEPasses, makeKeyTests}
 use Rattle.signing.specs.Attempt.{Key, Outcome, passes, fails, overflows, attempt, tried, answered, attemptPasses, highsOf, vOf, zFrom}
@@ -252,7 +253,7 @@ pub highs-fit : (set : Numbers) → 0 < set .q → highMost set ≤ 127 → (v :
 unfolding highsOf
 highs-fit set q-some h v =
     every-joined fitsByte (set .k) _
-    ∙ each-all (set .k) _ (λ i l. every-map fitsByte (λ x. high (set .q) (set .d) (pos x)) (v i)
+    ∙ eachBelow-all (set .k) _ (λ i l. every-map fitsByte (λ x. high (set .q) (set .d) (pos x)) (v i)
     ∙ every-always (λ x. fitsByte (high (set .q) (set .d) (pos x))) (v i) (λ x. small-fits (high (set .q) (set .d) (pos x)) (omega (arith, high-bound (set .q) (set .d) (pos x) q-some))))
 
 -- so no attempt meets 10

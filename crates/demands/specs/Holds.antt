@@ -14,7 +14,7 @@ use Rattle.whole.specs.Residue.{residue, residue-same, Same, same-eq, same-tran
 use Rattle.whole.specs.Table.{length-table, getD-table, joined-ext, joined-part, joined-length}
 use Rattle.whole.specs.Below.{Below, below-joined}
 use Rattle.whole.specs.Refusal.{answer, every, eachBelow, sameBytes}
-use Rattle.whole.specs.RefusalLaws.{both, both-first, both-second, answer-pass, answer-none, every-at, each-at, same-refl-bytes}
+use Rattle.whole.specs.RefusalLaws.{both, both-first, both-second, answer-pass, answer-none, every-at, eachBelow-at, same-refl-bytes}
 use Rattle.rounding.specs.Parts.{high}
 use Rattle.rounding.specs.Tests.{lowPasses, sizePasses, fitsByte}
 use Rattle.ring.specs.Product.{mul}
@@ -175,7 +175,7 @@ module _ (set : Numbers) (good : Good set) (s e seedA : List ℕ) where
         omega (arith, bytes-bound (set .n) (set .h) (eOf set e i) (polynomialOf (encOf set c′)) j (polynomial-length (set .n) (set .k) i e e-long l) m few, passes-E)
       where
         passes-E : largest (set .h) (sizes (eOf set e i)) ≤ set .e
-        passes-E = leb-true (largest (set .h) (sizes (eOf set e i))) (set .e) (each-at (set .k) (λ i. sumPasses (set .h) (set .e) (eOf set e i)) i checkE l)
+        passes-E = leb-true (largest (set .h) (sizes (eOf set e i))) (set .e) (eachBelow-at (set .k) i (λ i. sumPasses (set .h) (set .e) (eOf set e i)) checkE l)
 
     one-coefficient : (i j : ℕ) → i < set .k → j < set .n
         → high (set .q) (set .d) (pos (getD (wOf set e (vOf set seedA y) (encOf set c′) i) j 0)) ≡ high (set .q) (set .d) (pos (getD (vOf set seedA y i) j 0))
@@ -208,7 +208,7 @@ module _ (set : Numbers) (good : Good set) (s e seedA : List ℕ) where
         w-is = getD-table (set .n) j (λ j. residue (set .q) (naturals (vOf set seedA y i) j -ℤ mul (set .n) (signedBytes (eOf set e i)) (polynomialOf (encOf set c′)) j)) 0 m
 
         both-pass : wPasses set w ≡ true
-        both-pass = each-at (set .k) _ i passed l
+        both-pass = eachBelow-at (set .k) i _ passed l
 
         long : j < length w
         long = omega (arith, m, length-table (set .n) (λ j. residue (set .q) (naturals (vOf set seedA y i) j -ℤ mul (set .n) (signedBytes (eOf set e i)) (polynomialOf (encOf set c′)) j)))

@@ -1,7 +1,14 @@
+pub mod Answers
 pub mod Layout
+pub mod Pieces
+pub mod PublicPlaces
 pub mod Public
-pub mod Secret
-pub mod Signature
 pub mod PublicLaws
+pub mod SizeLaws
+pub mod Secret
+pub mod SecretPlaces
 pub mod SecretLaws
+pub mod Signature
+pub mod SignatureAnswers
+pub mod SignatureParts
 pub mod SignatureLaws

@@ -35,6 +35,14 @@ tInRange s t = every (λ v. ltb v (s .q)) t
 
 -- ---- the tests
 
+-- a record by itself
+unfoldable pub publicTests : Numbers → List ℕ → List Test
+publicTests s public =
+    (eqb (length public) (publicBytes s) orElse 1)
+    ∷ (marked s 1 public orElse 2)
+    ∷ (tInRange s (allT s public) orElse 5)
+    ∷ []
+
 -- reading a record into t and seed_a, with the lengths of the two outputs
 unfoldable pub readPublicTests : Numbers → List ℕ → ℕ → ℕ → List Test
 readPublicTests s public tLength seedLength =

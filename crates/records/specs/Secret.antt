@@ -38,6 +38,14 @@ inByteRange bytes = every (λ b. not (eqb b 128)) bytes
 
 -- ---- the tests
 
+-- a record by itself
+unfoldable pub secretTests : Numbers → List ℕ → List Test
+secretTests set secret =
+    (eqb (length secret) (secretBytes set) orElse 1)
+    ∷ (marked set 2 secret orElse 2)
+    ∷ ((inByteRange (sOf set secret) && inByteRange (allE set secret)) orElse 5)
+    ∷ []
+
 unfoldable pub readSecretTests : Numbers → List ℕ → ℕ → ℕ → ℕ → ℕ → ℕ → List Test
 readSecretTests set secret sLength eLength seedALength seedYLength gLength =
     ((eqb (length secret) (secretBytes set) && (eqb sLength (set .n) && (eqb eLength (set .k * set .n)

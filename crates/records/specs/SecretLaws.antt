@@ -16,17 +16,10 @@ use Rattle.whole.specs.RefusalLaws.{both, both-first, answer-pass, answer-none,
 use Rattle.sets.specs.declared.Numbers.{Numbers}
 use Rattle.records.specs.Layout.{mark, marked, stretch, seedBytes, digestBytes, secretBytes}
 use Rattle.records.specs.Secret.{secretRecord, sOf, allE, secretSeedA, secretSeedY, secretG, inByteRange, readSecretTests}
+use Rattle.records.specs.SecretPlaces.{SecretLengths}
 use Rattle.records.specs.PublicLaws.{marked-mark, marked-front}
 
 -- ---- what is written reads back
-
--- the lengths of a record's values
-pub record SecretLengths (set : Numbers) (s e seedA seedY g : List ℕ) : Type 0 where
-  pub s-long : length s ≡ set .n
-  pub e-long : length e ≡ set .k * set .n
-  pub seedA-long : length seedA ≡ seedBytes
-  pub seedY-long : length seedY ≡ seedBytes
-  pub g-long : length g ≡ digestBytes
 
 module _ (set : Numbers) (s e seedA seedY g : List ℕ) where
   pub secret-marked : marked set 2 (secretRecord set s e seedA seedY g) ≡ true

@@ -7,6 +7,7 @@ use mathlib.Core.List.{List, _++_, map}
 use Prim.Native.Nat.{ℕ, _+_, _*_, _-_}
 use native.Mathlib.Nat.{le-of-eq}
 use native.Mathlib.Omega.{arith}
+use lib.Dec.{lit<}
 use lib.IntN.{ℤ, pos, natAbs}
 use lib.ListN.{length, getD, drop, length-append, length-map}
 use lib.Seq.{take-all}
@@ -23,8 +24,10 @@ use Rattle.packing.specs.Laws.{packed-length, unpacked-length, unpacked-below, 
 use Rattle.packing.specs.Twos.{AllInBits, signed-twos-all, twos-signed-all, twos-all-below}
 use Rattle.sets.specs.declared.Numbers.{Numbers}
 use Rattle.sets.specs.Good.{Good}
+use Rattle.sets.specs.SetI.{setI, setI-good}
 use Rattle.records.specs.Layout.{mark, marked, stretch, seedBytes, zBytes, signatureBytes}
 use Rattle.records.specs.Signature.{signatureRecord, zOf, challengeOf, zInRange, readSignatureTests}
+use Rattle.records.specs.SignatureParts.{Signs}
 use Rattle.records.specs.PublicLaws.{marked-mark, marked-front}
 
 -- ---- the range of z
@@ -137,3 +140,9 @@ pub signature-read-again : (s : Numbers) (signature : List ℕ) (zLength cLength
 unfolding readSignatureTests
 signature-read-again s signature zLength cLength good bytes e =
     signature-again s good signature bytes (eqb-true _ _ (both-first _ _ (answer-first _ 0 _ e))) (answer-first _ 1 _ (answer-rest _ 0 _ e))
+
+-- ---- set I
+
+-- its z is an i32
+pub setI-signs : Signs setI
+setI-signs = record { good = setI-good; narrow = lit< tt }

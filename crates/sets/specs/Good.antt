@@ -35,8 +35,9 @@ pub record Good (s : Numbers) : Type 0 where
   pub z-some : s .s ≤ s .b
   pub z-fits : s .b - s .s < 2 ^ (s .«z_bits» - 1)
   pub z-byte : 8 ≤ s .«z_bits»
+  pub z-word : s .«z_bits» ≤ 32
   -- sampling: a candidate of 3 bytes holds y
-  pub z-word : s .«z_bits» ≤ 24
+  pub y-bytes : s .«z_bits» ≤ 24
   pub z-whole : s .«z_bits» * s .n % 8 ≡ 0
   -- sampling: h positions can be drawn, from 256 candidates
   pub h-inside : s .h ≤ s .n

@@ -43,6 +43,7 @@ setI-good =
       z-fits = lit< tt;
       z-byte = lit≤ tt;
       z-word = lit≤ tt;
+      y-bytes = lit≤ tt;
       z-whole = refl;
       h-inside = lit≤ tt;
       h-drawn = lit≤ tt;

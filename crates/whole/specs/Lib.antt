@@ -2,6 +2,7 @@ pub mod Int
 pub mod Residue
 pub mod Sum
 pub mod Parts
+pub mod Written
 pub mod Table
 pub mod Fill
 pub mod Below

@@ -1,25 +1,27 @@
 -- Laws of tests in a row and of the answer that they give.
 --     answer-pass, answer-fail      a first test that passes, and one that does not
 --     answer-first, answer-rest     where the answer is 0 the first test passes, and so do the others
---     after-done, after-refused     an output after the answer 0, and after any other
---     every-pass, every-fail, every-end     a loop that tests the elements from the front
+--     after-done, after-refused, output-new, output-kept      an output after the answer 0, and after any other
 --     every-at, every-all           what `every` says of each place
 --     every-append, every-joined    lists in a row
---     both, both-first, both-second, not-first, not-second      && of two tests
+--     eachBelow-..                  the same of p 0, .., p (k − 1)
+--     Passing                       a loop that tests the elements from the front
+--     both, both-first, both-second, and-pass, not-first, not-second      && of two tests
+--     and-same, and-differs, same-first, same-rest      && of an equation and other tests
 -- Assumes nothing.
-use lib.Dec.{leb}
-use borrow.Author.Tests.{eq-eqb, leb-true}
-use Rattle.whole.specs.Int.{lt-or-le}
-use mathlib.Core.Logic.{⊎-elim}
 use mathlib.Core.Path.{_≡_, refl, sym, ap, _∙_, subst}
 use mathlib.Core.Bool.{Bool, true, false, _&&_, true≢false, and-assoc, and-false, cond}
 use mathlib.Core.List.{List, [], _∷_, _++_, map}
+use mathlib.Core.Logic.{⊎-elim}
 use Prim.Native.Nat.{ℕ, zero, suc, _+_, _≤_, _<_, zero-le}
 use native.Mathlib.Nat.{not-suc-le-zero, le-of-suc-le-suc, zero-lt-suc}
 use native.Mathlib.Numerals.{add-one}
 use native.Mathlib.Omega.{arith}
+use lib.Dec.{eqb, leb}
 use lib.ListN.{length, getD, drop, drop-of-length-le}
 use lib.Seq.{drop-cons}
+use borrow.Author.Tests.{eqb-true, eq-eqb, ne-eqb, leb-true}
+use Rattle.whole.specs.Int.{lt-or-le}
 use Rattle.whole.specs.Table.{joined}
 use Rattle.whole.specs.Refusal.{Test, _orElse_, answer, after, every, eachBelow, sameBytes}
 
@@ -36,11 +38,27 @@ pub both-second : (a b : Bool) → (a && b) ≡ true → b ≡ true
 both-second true b e = e
 both-second false b e = absurd (true≢false (sym e))
 
+pub and-pass : {a : Bool} (b : Bool) → a ≡ true → (a && b) ≡ b
+and-pass b e = rw e
+
 pub not-first : {a : Bool} (b : Bool) → a ≡ false → (a && b) ≡ false
 not-first b e = rw e
 
 pub not-second : (a : Bool) {b : Bool} → b ≡ false → (a && b) ≡ false
 not-second a e = rw e (and-false a)
+
+-- an equation as a first test: it holds, so the rest is left; it does not
+pub and-same : {a b : ℕ} {r rest : Bool} → a ≡ b → r ≡ rest → r ≡ (eqb a b && rest)
+and-same {a} {b} {r} {rest} e f = f ∙ sym (and-pass rest (eq-eqb a b e))
+
+pub and-differs : {a b : ℕ} (rest : Bool) → (a ≡ b → ⊥) → false ≡ (eqb a b && rest)
+and-differs {a} {b} rest h = sym (not-first rest (ne-eqb a b h))
+
+pub same-first : (a b : ℕ) (rest : Bool) → (eqb a b && rest) ≡ true → a ≡ b
+same-first a b rest e = eqb-true a b (both-first (eqb a b) rest e)
+
+pub same-rest : (a b : ℕ) (rest : Bool) → (eqb a b && rest) ≡ true → rest ≡ true
+same-rest a b rest e = both-second (eqb a b) rest e
 
 -- ---- the answer
 
@@ -67,6 +85,39 @@ unfolding answer
 answer-rest true number ts e = e
 answer-rest false number ts e = absurd (omega arith)
 
+-- ---- each of p 0, .., p (k − 1)
+
+pub eachBelow-none : (p : ℕ → Bool) → eachBelow 0 p ≡ true
+unfolding eachBelow
+eachBelow-none p = refl
+
+pub eachBelow-more : {i next : ℕ} (p : ℕ → Bool) → eachBelow i p ≡ true → p i ≡ true → next ≡ i + 1 → eachBelow next p ≡ true
+unfolding eachBelow
+eachBelow-more p e f n = rw (n, add-one) (both e f)
+
+pub eachBelow-at : (k i : ℕ) (p : ℕ → Bool) → eachBelow k p ≡ true → i < k → p i ≡ true
+unfolding eachBelow
+eachBelow-at zero i p e l = absurd (not-suc-le-zero l)
+eachBelow-at (suc k) i p e l =
+    ⊎-elim (λ lt. eachBelow-at k i p (both-first (eachBelow k p) (p k) e) lt)
+    (λ le. ap p (same le) ∙ both-second (eachBelow k p) (p k) e) (lt-or-le i k)
+  where
+    same : k ≤ i → i ≡ k
+    same le = omega arith
+
+pub eachBelow-all : (k : ℕ) (p : ℕ → Bool) → ((i : ℕ) → i < k → p i ≡ true) → eachBelow k p ≡ true
+unfolding eachBelow
+eachBelow-all zero p h = refl
+eachBelow-all (suc k) p h = both (eachBelow-all k p (λ i l. h i (omega arith))) (h k (omega arith))
+
+-- one does not pass
+pub eachBelow-fails : (k i : ℕ) (p : ℕ → Bool) → i < k → p i ≡ false → eachBelow k p ≡ false
+eachBelow-fails k i p l e = go (eachBelow k p) refl
+  where
+    go : (b : Bool) → eachBelow k p ≡ b → eachBelow k p ≡ false
+    go true f = absurd (true≢false (sym (eachBelow-at k i p f l) ∙ e))
+    go false f = f
+
 module _ {A : Type 0} where
   pub after-done : {number : ℕ} (new old : A) → number ≡ 0 → after number new old ≡ new
   unfolding after
@@ -75,6 +126,13 @@ module _ {A : Type 0} where
   pub after-refused : {number : ℕ} (m : ℕ) (new old : A) → number ≡ suc m → after number new old ≡ old
   unfolding after
   after-refused m new old e = rw e
+
+  -- what an output holds is what it has to hold: done, and refused
+  pub output-new : {number : ℕ} {out new : A} (old : A) → 0 ≡ number → out ≡ new → out ≡ after number new old
+  output-new {new = new} old e f = f ∙ sym (after-done new old (sym e))
+
+  pub output-kept : {number : ℕ} (m : ℕ) (new old : A) → suc m ≡ number → old ≡ after number new old
+  output-kept m new old e = sym (after-refused m new old (sym e))
 
   -- ---- every element
 
@@ -101,37 +159,37 @@ module _ {A : Type 0} where
   every-joined p (suc k) f = every-append p (joined k f) (f k) ∙ ap (λ (b : Bool). b && every p (f k)) (every-joined p k f)
 
   -- a loop over the elements: those before i pass
-  module _ (p : A → Bool) (xs : List A) (i : ℕ) (d : A) where
-    split : i < length xs → every p (drop i xs) ≡ (p (getD xs i d) && every p (drop (i + 1) xs))
+  pub record Passing (p : A → Bool) (xs : List A) (i : ℕ) : Type 0 where
+    pub left : every p xs ≡ every p (drop i xs)
+
+  pub passing-none : (p : A → Bool) (xs : List A) → Passing p xs 0
+  passing-none p xs = record { left = refl }
+
+  split : (p : A → Bool) (xs : List A) (i : ℕ) (d : A) → i < length xs → every p (drop i xs) ≡ (p (getD xs i d) && every p (drop (i + 1) xs))
+  unfolding every
+  split p xs i d l = rw (add-one, drop-cons xs i d l)
+
+  pub every-pass : (p : A → Bool) (xs : List A) (i : ℕ) (d : A) → i < length xs → p (getD xs i d) ≡ true → every p (drop i xs) ≡ every p (drop (i + 1) xs)
+  every-pass p xs i d l e = split p xs i d l ∙ rw e
+
+  pub every-fail : (p : A → Bool) (xs : List A) (i : ℕ) (d : A) → i < length xs → p (getD xs i d) ≡ false → every p (drop i xs) ≡ false
+  every-fail p xs i d l e = split p xs i d l ∙ rw e
+
+  pub every-end : (p : A → Bool) (xs : List A) (i : ℕ) (d : A) → length xs ≤ i → every p (drop i xs) ≡ true
+  unfolding every
+  every-end p xs i d l = rw (drop-of-length-le xs l)
+
+  module _ {p : A → Bool} {xs : List A} {i : ℕ} (s : Passing p xs i) where
+    pub passing-more : {next : ℕ} (d : A) → i < length xs → p (getD xs i d) ≡ true → next ≡ i + 1 → Passing p xs next
+    passing-more d l e n = rw n (record { left = s .left ∙ split p xs i d l ∙ rw e })
+
+    -- one does not pass
+    pub passing-fails : (d : A) → i < length xs → p (getD xs i d) ≡ false → false ≡ every p xs
+    passing-fails d l e = sym (s .left ∙ split p xs i d l ∙ rw e)
+
+    pub passing-all : length xs ≤ i → true ≡ every p xs
     unfolding every
-    split l = rw (add-one, drop-cons xs i d l)
-
-    pub every-pass : i < length xs → p (getD xs i d) ≡ true → every p (drop i xs) ≡ every p (drop (i + 1) xs)
-    every-pass l e = split l ∙ rw e
-
-    pub every-fail : i < length xs → p (getD xs i d) ≡ false → every p (drop i xs) ≡ false
-    every-fail l e = split l ∙ rw e
-
-    pub every-end : length xs ≤ i → every p (drop i xs) ≡ true
-    unfolding every
-    every-end l = rw (drop-of-length-le xs l)
-
--- ---- every index below k
-
-pub each-at : (k : ℕ) (p : ℕ → Bool) (i : ℕ) → eachBelow k p ≡ true → i < k → p i ≡ true
-unfolding eachBelow
-each-at zero p i e l = absurd (omega arith)
-each-at (suc k) p i e l =
-    ⊎-elim (λ lt. each-at k p i (both-first (eachBelow k p) (p k) e) lt)
-    (λ le. subst (λ (j : ℕ). p j ≡ true) (same le) (both-second (eachBelow k p) (p k) e)) (lt-or-le i k)
-  where
-    same : k ≤ i → k ≡ i
-    same le = omega arith
-
-pub each-all : (k : ℕ) (p : ℕ → Bool) → ((i : ℕ) → i < k → p i ≡ true) → eachBelow k p ≡ true
-unfolding eachBelow
-each-all zero p h = refl
-each-all (suc k) p h = both (each-all k p (λ i l. h i (omega arith))) (h k (omega arith))
+    passing-all l = sym (s .left ∙ rw (drop-of-length-le xs l))
 
 -- ---- equal lists
 

@@ -1,0 +1,86 @@
+// Keccak-f[1600] and SHAKE256 in plain C, for a machine whose lowest byte comes first.
+#include "plain.h"
+
+#include <string.h>
+
+#define RATE 136
+
+static const uint64_t RC[24] = {
+    0x0000000000000001, 0x0000000000008082, 0x800000000000808a, 0x8000000080008000,
+    0x000000000000808b, 0x0000000080000001, 0x8000000080008081, 0x8000000000008009,
+    0x000000000000008a, 0x0000000000000088, 0x0000000080008009, 0x000000008000000a,
+    0x000000008000808b, 0x800000000000008b, 0x8000000000008089, 0x8000000000008003,
+    0x8000000000008002, 0x8000000000000080, 0x000000000000800a, 0x800000008000000a,
+    0x8000000080008081, 0x8000000000008080, 0x0000000080000001, 0x8000000080008008,
+};
+
+// The lanes in the order in which pi moves them, from lane 1 on, and the turn of each.
+static const int PI[24] = {10, 7, 11, 17, 18, 3, 5, 16, 8, 21, 24, 4, 15, 23, 19, 13, 12, 2, 20, 14, 22, 9, 6, 1};
+static const int RHO[24] = {1, 3, 6, 10, 15, 21, 28, 36, 45, 55, 2, 14, 27, 41, 56, 8, 25, 43, 62, 18, 39, 61, 20, 44};
+
+static inline uint64_t turn(uint64_t a, int k) {
+    return a << k | a >> (64 - k);
+}
+
+void plain_permute(uint64_t lanes[25]) {
+    uint64_t a[25], c[5];
+    memcpy(a, lanes, sizeof a);
+    for (int round = 0; round < 24; round++) {
+#pragma GCC unroll 5
+        for (int x = 0; x < 5; x++)
+            c[x] = a[x] ^ a[x + 5] ^ a[x + 10] ^ a[x + 15] ^ a[x + 20];
+#pragma GCC unroll 5
+        for (int x = 0; x < 5; x++) {
+            uint64_t d = c[(x + 4) % 5] ^ turn(c[(x + 1) % 5], 1);
+#pragma GCC unroll 5
+            for (int y = 0; y < 25; y += 5)
+                a[x + y] ^= d;
+        }
+        uint64_t moved = a[1];
+#pragma GCC unroll 24
+        for (int i = 0; i < 24; i++) {
+            uint64_t next = a[PI[i]];
+            a[PI[i]] = turn(moved, RHO[i]);
+            moved = next;
+        }
+#pragma GCC unroll 5
+        for (int y = 0; y < 25; y += 5) {
+            uint64_t b0 = a[y], b1 = a[y + 1], b2 = a[y + 2], b3 = a[y + 3], b4 = a[y + 4];
+            a[y] = b0 ^ (~b1 & b2);
+            a[y + 1] = b1 ^ (~b2 & b3);
+            a[y + 2] = b2 ^ (~b3 & b4);
+            a[y + 3] = b3 ^ (~b4 & b0);
+            a[y + 4] = b4 ^ (~b0 & b1);
+        }
+        a[0] ^= RC[round];
+    }
+    memcpy(lanes, a, sizeof a);
+}
+
+static void add_block(uint64_t lanes[25], const uint8_t block[RATE]) {
+    for (int i = 0; i < RATE / 8; i++) {
+        uint64_t lane;
+        memcpy(&lane, block + 8 * i, 8);
+        lanes[i] ^= lane;
+    }
+}
+
+void plain_shake(const uint8_t *message, size_t message_len, uint8_t *out, size_t out_len) {
+    uint64_t lanes[25] = {0};
+    uint8_t last[RATE] = {0};
+    for (; message_len >= RATE; message += RATE, message_len -= RATE) {
+        add_block(lanes, message);
+        plain_permute(lanes);
+    }
+    if (message_len > 0)
+        memcpy(last, message, message_len);
+    last[message_len] ^= 0x1F;
+    last[RATE - 1] ^= 0x80;
+    add_block(lanes, last);
+    plain_permute(lanes);
+    for (; out_len > RATE; out += RATE, out_len -= RATE) {
+        memcpy(out, lanes, RATE);
+        plain_permute(lanes);
+    }
+    memcpy(out, lanes, out_len);
+}

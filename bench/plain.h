@@ -1,0 +1,14 @@
+// Plain C to measure against: the permutation, and SHAKE256.
+#ifndef PLAIN_H
+#define PLAIN_H
+
+#include <stddef.h>
+#include <stdint.h>
+
+// Keccak-f[1600] of 25 lanes, in their place.
+void plain_permute(uint64_t lanes[25]);
+
+// The first out_len bytes of SHAKE256 of the message.
+void plain_shake(const uint8_t *message, size_t message_len, uint8_t *out, size_t out_len);
+
+#endif

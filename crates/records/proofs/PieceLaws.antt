@@ -1,0 +1,73 @@
+-- Laws of the pieces: a loop that copies, and a mark that is written and tested.
+-- Assumes nothing.
+use mathlib.Core.Path.{_≡_, sym, _∙_}
+use mathlib.Core.Bool.{false}
+use mathlib.Core.List.{List, [], _∷_, _++_, append-nil}
+use Prim.Native.Nat.{ℕ, _+_, _*_, _≤_, _<_, zero-le, _-_}
+use native.Mathlib.Nat.{le-antisymm, le-refl, le-trans}
+use native.Mathlib.Omega.{arith}
+use lib.Dec.{eqb}
+use lib.ListN.{length, getD, drop, set, take}
+use borrow.Author.Tests.{eq-eqb, ne-eqb}
+use Rattle.whole.specs.Fill.{filled, filled-none, filled-more, filled-all, length-filled}
+use Rattle.sets.specs.declared.Numbers.{Numbers}
+use Rattle.records.specs.Layout.{marked}
+use Rattle.records.specs.Pieces.{Copies, CopiesOut}
+use lib.Seq.{drop-length}
+use Rattle.whole.specs.Parts.{part-length}
+
+-- ---- copying
+
+-- the first i bytes stand in `to`
+pub record Copying (from old to : List ℕ) (i : ℕ) : Type 0 where
+  pub near : i ≤ length from
+  pub done : to ≡ filled i from old
+
+pub copying-none : (from old : List ℕ) → Copying from old old 0
+copying-none from old = record { near = zero-le; done = filled-none from old }
+
+module _ {from old to : List ℕ} {i : ℕ} (p : Copies from old) (s : Copying from old to i) where
+  pub copying-more : {v next : ℕ} → i < length from → v ≡ getD from i 0 → next ≡ i + 1 → Copying from old (set to i v) next
+  copying-more {v} l e n =
+      rw n
+      (record {
+        near = omega arith;
+        done = rw (s .done) (filled-more i from old 0 v l (le-trans l (p .room)) (sym e));
+      })
+
+  pub copying-length : length to ≡ length old
+  copying-length = rw (s .done) (length-filled i from old (s .near) (le-trans (s .near) (p .room)))
+
+  pub copying-all : length from ≤ i → to ≡ from ++ drop (length from) old
+  copying-all l =
+      let e : i ≡ length from = le-antisymm (s .near) l in
+      s .done ∙ rw e (filled-all (length from) from old (le-refl (length from)))
+
+-- ---- marks
+
+pub mark-stored : (out : List ℕ) {a b first second : ℕ} → 2 ≤ length out → a ≡ first → b ≡ second
+    → set (set out 0 a) 1 b ≡ first ∷ second ∷ drop 2 out
+mark-stored [] h e f = absurd (omega arith)
+mark-stored (x ∷ []) h e f = absurd (omega arith)
+mark-stored (x ∷ y ∷ out) h e f = rw (e, f)
+
+module _ (s : Numbers) (j : ℕ) (bytes : List ℕ) {first : ℕ} (e : first ≡ getD bytes 0 0) where
+  pub mark-other : (first ≡ 0x51 → ⊥) → false ≡ marked s j bytes
+  unfolding marked
+  mark-other h = rw (← e, ne-eqb first 0x51 h)
+
+  pub mark-same : {second b : ℕ} → first ≡ 0x51 → second ≡ getD bytes 1 0 → b ≡ 16 * s .digit + j → eqb second b ≡ marked s j bytes
+  unfolding marked
+  mark-same h f g = rw (← e, eq-eqb first 0x51 h, f, g)
+
+-- ---- bytes from the middle of a list
+
+-- what `copy_out` leaves: the part fills the output
+pub out-is : {from to new : List ℕ} {at : ℕ} → CopiesOut from at to
+    → new ≡ take (at + length to - at) (drop at from) ++ drop (length (take (at + length to - at) (drop at from))) to
+    → new ≡ take (length to) (drop at from)
+out-is {from} {to} {new} {at} p e =
+    e ∙ rw (size, part-length at (length to) from (p .enough), drop-length to) (append-nil (take (length to) (drop at from)))
+  where
+    size : at + length to - at ≡ length to
+    size = omega arith

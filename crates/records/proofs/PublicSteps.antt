@@ -1,0 +1,353 @@
+-- The steps of reading and writing a public record: one t_i in its own stretch.
+-- Assumes nothing.
+use mathlib.Core.Path.{_≡_, sym, ap, _∙_, refl, ap₂}
+use mathlib.Core.Bool.{true, false, Bool, _&&_, and-assoc, and-comm}
+use mathlib.Core.List.{List, _++_, append-nil, append-assoc}
+use Prim.Native.Nat.{ℕ, _+_, _*_, _-_, _≤_, _<_, zero-le}
+use native.Mathlib.Omega.{arith}
+use lib.Dec.{eqb, ltb}
+use lib.ListN.{length, getD, take, drop, length-drop, length-append}
+use borrow.Author.Tests.{lt-ltb, le-ltb, eqb-true}
+use Rattle.whole.specs.Below.{below-more}
+use Rattle.whole.specs.Parts.{part-length}
+use Rattle.whole.specs.RefusalLaws.{Passing, passing-more, passing-fails, passing-all, every-joined, eachBelow-none, eachBelow-more, eachBelow-fails, both-first, answer-first, same-first, same-rest}
+use Rattle.whole.specs.Written.{lent-rest, put-rest, Written, written-none, written-kept, written-length, written-more, written-all, put-part, written-front}
+use Rattle.packing.specs.Digits.{bytesFor, packed, unpacked, Packs, Unpacks}
+use Rattle.sets.specs.declared.Numbers.{Numbers}
+use Rattle.records.specs.Layout.{tBytes, publicBytes, polynomial, mark, seedBytes}
+use Rattle.records.specs.PublicPlaces.{ReadsT, PacksT, ScansT, ReadsAllT, PacksAllT, TestsPublic, PutsPublic, TakesPublic}
+use Rattle.records.specs.Public.{tOf, allT, tInRange, packedT, publicRecord, seedAOf, readPublicTests}
+use Rattle.records.specs.SizeLaws.{n-few, stretch-fits, row-few}
+use native.Mathlib.Nat.{le-antisymm, mul-comm}
+use Rattle.whole.specs.Refusal.{answer, eachBelow}
+use native.Mathlib.Numerals.{add-one}
+use lib.Seq.{length-take-le}
+use Rattle.whole.specs.Table.{joined, joined-length}
+use Rattle.records.specs.PublicLaws.{row-fits, tOf-length, polynomial-length, polynomial-below, packed-t-length, packedT-length, tInRange-below}
+use Rattle.records.specs.Pieces.{Writes}
+
+-- ---- one t_i is read
+
+module _ {s : Numbers} {public out : List ℕ} {i len start : ℕ} (r : ReadsT s public i out) (e : len ≡ tBytes s) (f : start ≡ 2 + tBytes s * i) where
+  pub read-fits : start + len ≤ length public
+  read-fits = rw (e, f) (stretch-fits s public i (r .long) (r .inside))
+
+  size : start + len - start ≡ len
+  size = omega arith
+
+  pub read-unpacks : Unpacks (s .«t_bits») (take (start + len - start) (drop start public)) out
+  read-unpacks =
+      record {
+        wide = r .good .t-byte;
+        narrow = r .good .t-word;
+        exact = rw size (part-length start len public read-fits) ∙ e ∙ ap (bytesFor (s .«t_bits»)) (sym (r .room));
+      }
+
+  pub read-is : {new : List ℕ} → new ≡ unpacked (s .«t_bits») (length out) (take (start + len - start) (drop start public)) → new ≡ tOf s public i
+  unfolding tOf
+  read-is g = g ∙ rw (size, e, f, r .room)
+
+-- ---- one t_i is written
+
+module _ {s : Numbers} {t public : List ℕ} {i start : ℕ} (p : PacksT s t i public) (f : start ≡ 2 + tBytes s * i) where
+  pub write-fits : start + tBytes s ≤ length public
+  write-fits = rw f (stretch-fits s public i (p .long) (p .inside))
+
+  pub write-packs : Packs (s .«t_bits») t (take (length public - start) (drop start public))
+  write-packs =
+      record {
+        wide = p .good .t-byte;
+        narrow = p .good .t-word;
+        below = below-more t (p .good .t-fits) (p .below);
+        few = omega (arith, n-few (p .good), p .polynomial);
+        room = rw (lent-rest, p .polynomial) (omega (arith, write-fits, length-drop start public));
+      }
+
+  pub write-is : {ys : List ℕ}
+      → ys ≡ packed (s .«t_bits») t ++ drop (bytesFor (s .«t_bits») (length t)) (take (length public - start) (drop start public))
+      → take start public ++ (ys ++ drop (length public - start) (drop start public))
+      ≡ take (2 + tBytes s * i) public ++ (packed (s .«t_bits») t ++ drop (2 + tBytes s * i + tBytes s) public)
+  write-is g = put-rest start (bytesFor (s .«t_bits») (length t)) public (packed (s .«t_bits») t) g ∙ rw (p .polynomial, f)
+
+-- ---- the range of t
+
+abbrev pub Testing : ℕ → List ℕ → ℕ → Type 0
+Testing q t i = Passing (λ v. ltb v q) t i
+
+module _ (s : Numbers) (t : List ℕ) {i : ℕ} (p : Testing (s .q) t i) where
+  pub testing-more : {next : ℕ} → i < length t → getD t i 0 < s .q → next ≡ i + 1 → Testing (s .q) t next
+  testing-more l h n = passing-more p 0 l (lt-ltb (getD t i 0) (s .q) h) n
+
+  pub testing-fails : i < length t → s .q ≤ getD t i 0 → false ≡ tInRange s t
+  unfolding tInRange
+  testing-fails l h = passing-fails p 0 l (le-ltb (getD t i 0) (s .q) h)
+
+  pub testing-all : length t ≤ i → true ≡ tInRange s t
+  unfolding tInRange
+  testing-all l = passing-all p l
+
+-- ---- the range of t_1..t_k
+
+-- t_1..t_i are in range
+pub record Ranging (s : Numbers) (public scratch : List ℕ) (i : ℕ) : Type 0 where
+  pub near : i ≤ s .k
+  pub room : length scratch ≡ s .n
+  pub passed : eachBelow i (λ j. tInRange s (tOf s public j)) ≡ true
+
+pub ranging-none : {s : Numbers} {public scratch : List ℕ} → ScansT s public scratch → Ranging s public scratch 0
+ranging-none {s} {public} p =
+    record {
+      near = zero-le;
+      room = p .room;
+      passed = eachBelow-none (λ j. tInRange s (tOf s public j));
+    }
+
+each-range : (s : Numbers) (public : List ℕ) → tInRange s (allT s public) ≡ eachBelow (s .k) (λ j. tInRange s (tOf s public j))
+unfolding tInRange allT
+each-range s public = every-joined (λ v. ltb v (s .q)) (s .k) (tOf s public)
+
+module _ {s : Numbers} {public scratch : List ℕ} {i : ℕ} (p : Ranging s public scratch i) where
+  pub ranging-reads : {old : List ℕ} → ScansT s public old → i < s .k → ReadsT s public i scratch
+  ranging-reads q l =
+      record {
+        good = q .good;
+        long = q .long;
+        inside = l;
+        room = p .room;
+      }
+
+  pub ranging-more : (new : List ℕ) {next : ℕ} {r : Bool} → i < s .k → length new ≡ length scratch → r ≡ tInRange s (tOf s public i)
+      → r ≡ true → next ≡ i + 1 → Ranging s public new next
+  ranging-more new l e f g n =
+      record {
+        near = omega arith;
+        room = e ∙ p .room;
+        passed = eachBelow-more (λ j. tInRange s (tOf s public j)) (p .passed) (sym f ∙ g) n;
+      }
+
+  pub ranging-fails : {r : Bool} → i < s .k → r ≡ tInRange s (tOf s public i) → r ≡ false → false ≡ tInRange s (allT s public)
+  ranging-fails l f g =
+      sym (each-range s public ∙ eachBelow-fails (s .k) i (λ j. tInRange s (tOf s public j)) l (sym f ∙ g))
+
+  pub ranging-all : s .k ≤ i → true ≡ tInRange s (allT s public)
+  ranging-all l =
+      let e : s .k ≡ i = le-antisymm l (p .near) in
+      sym (each-range s public ∙ ap (λ (j : ℕ). eachBelow j (λ j. tInRange s (tOf s public j))) e ∙ p .passed)
+
+-- ---- t_1..t_k are read
+
+-- a part that is n elements from n · i on
+part-size : (n i : ℕ) → n * i + n - n * i ≡ n
+part-size n i = omega arith
+
+-- t_1..t_i stand in t
+pub record ReadingT (s : Numbers) (public old t : List ℕ) (i : ℕ) : Type 0 where
+  pub near : i ≤ s .k
+  pub done : Written (joined i (tOf s public)) old t
+
+pub reading-none : (s : Numbers) (public old : List ℕ) → ReadingT s public old old 0
+unfolding joined
+reading-none s public old = record { near = zero-le; done = written-none old }
+
+module _ {s : Numbers} {public old t : List ℕ} {i : ℕ} (r : ReadsAllT s public old) (p : ReadingT s public old t i) where
+  pub reading-length : length t ≡ length old
+  reading-length = written-length (p .done)
+
+  pub reading-fits : i < s .k → s .n * i + s .n ≤ length t
+  reading-fits l = omega (arith, row-fits (s .n) (s .k) i l, reading-length, r .room)
+
+  pub reading-few : i < s .k → s .n * i + s .n ≤ 16711680
+  reading-few l = omega (arith, row-fits (s .n) (s .k) i l, row-few (r .good))
+
+  pub reading-reads : i < s .k → ReadsT s public i (take (s .n * i + s .n - s .n * i) (drop (s .n * i) t))
+  reading-reads l =
+      record {
+        good = r .good;
+        long = r .long;
+        inside = l;
+        room = rw (part-size (s .n) i) (part-length (s .n * i) (s .n) t (reading-fits l));
+      }
+
+  so-far : length (joined i (tOf s public)) ≡ i * s .n
+  so-far = joined-length i (s .n) (tOf s public) (λ j l. tOf-length s public j)
+
+  pub reading-more : {ys : List ℕ} {next : ℕ} → i < s .k → ys ≡ tOf s public i → next ≡ i + 1
+      → ReadingT s public old (take (s .n * i) t ++ (ys ++ drop (s .n * i + s .n - s .n * i) (drop (s .n * i) t))) next
+  unfolding joined
+  reading-more {ys} l e n =
+      rw (n, add-one)
+      (record {
+        near = l;
+        done =
+            written-more (p .done) (s .n * i) (s .n) (tOf s public i) (mul-comm (s .n) i ∙ sym so-far) (tOf-length s public i)
+            (omega (arith, reading-fits l, reading-length))
+            (rw (e, part-size (s .n) i) (put-part (s .n * i) (s .n) t (tOf s public i)));
+      })
+
+  pub reading-all : s .k ≤ i → t ≡ allT s public
+  unfolding allT
+  reading-all l =
+      let e : i ≡ s .k = le-antisymm (p .near) l in
+      written-all (p .done) (so-far ∙ ap (λ (j : ℕ). j * s .n) e ∙ sym (r .room)) ∙ ap (λ (j : ℕ). joined j (tOf s public)) e
+
+-- ---- t_1..t_k are written
+
+-- packed t_(j + 1)
+abbrev packedOf : Numbers → List ℕ → ℕ → List ℕ
+packedOf s t j = packed (s .«t_bits») (polynomial (s .n) j t)
+
+-- packed t_1..t_i stand in the record after its mark
+pub record WritingT (s : Numbers) (t old public : List ℕ) (i : ℕ) : Type 0 where
+  pub near : i ≤ s .k
+  pub done : Written (take 2 old ++ joined i (λ j. packed (s .«t_bits») (polynomial (s .n) j t))) old public
+
+pub writing-none : {s : Numbers} {t old : List ℕ} → PacksAllT s t old → WritingT s t old old 0
+unfolding joined
+writing-none {s} {t} {old} r =
+    record {
+      near = zero-le;
+      done = rw (append-nil (take 2 old)) (written-kept 2 old (omega (arith, r .long)));
+    }
+
+module _ {s : Numbers} {t old public : List ℕ} {i : ℕ} (r : PacksAllT s t old) (p : WritingT s t old public i) where
+  pub writing-length : length public ≡ length old
+  writing-length = written-length (p .done)
+
+  pub writing-fits : i < s .k → s .n * i + s .n ≤ length t
+  writing-fits l = omega (arith, row-fits (s .n) (s .k) i l, r .polynomials)
+
+  pub writing-packs : i < s .k → PacksT s (take (s .n * i + s .n - s .n * i) (drop (s .n * i) t)) i public
+  writing-packs l =
+      rw (part-size (s .n) i)
+      (record {
+        good = r .good;
+        polynomial = polynomial-length (s .n) (s .k) i t (r .polynomials) l;
+        below = polynomial-below (s .q) (s .n) i t (r .below);
+        inside = l;
+        long = writing-length ∙ r .long;
+      })
+
+  piece-size : (j : ℕ) → j < s .k → length (packedOf s t j) ≡ tBytes s
+  piece-size j l = packed-t-length s (polynomial (s .n) j t) (polynomial-length (s .n) (s .k) j t (r .polynomials) l)
+
+  so-far-written : length (take 2 old ++ joined i (packedOf s t)) ≡ 2 + tBytes s * i
+  so-far-written =
+      length-append (take 2 old) (joined i (packedOf s t))
+      ∙ ap₂ _+_ (length-take-le 2 old (omega (arith, r .long)))
+      (joined-length i (tBytes s) (packedOf s t) (λ j l. piece-size j (omega (arith, p .near))) ∙ mul-comm i (tBytes s))
+
+  pub writing-more : {new : List ℕ} {next : ℕ} → i < s .k
+      → new
+      ≡ take (2 + tBytes s * i) public
+      ++ (packed (s .«t_bits») (take (s .n * i + s .n - s .n * i) (drop (s .n * i) t)) ++ drop (2 + tBytes s * i + tBytes s) public)
+      → next ≡ i + 1 → WritingT s t old new next
+  unfolding joined
+  writing-more {new} l e n =
+      rw (n, add-one)
+      (record {
+        near = l;
+        done =
+            rw (← append-assoc (take 2 old) (joined i (packedOf s t)) (packedOf s t i))
+            (written-more (p .done) (2 + tBytes s * i) (tBytes s) (packedOf s t i) (sym so-far-written) (piece-size i l)
+            (stretch-fits s old i (r .long) l) (rw (part-size (s .n) i) at e));
+      })
+
+  pub writing-all : s .k ≤ i → public ≡ take 2 old ++ (packedT s t ++ drop (2 + s .k * tBytes s) old)
+  unfolding packedT
+  writing-all l =
+      let e : i ≡ s .k = le-antisymm (p .near) l in
+      p .done .is
+      ∙ ap (λ (a : ℕ). (take 2 old ++ joined i (packedOf s t)) ++ drop a old) (so-far-written ∙ ap (λ (a : ℕ). 2 + a) (mul-comm (tBytes s) i))
+      ∙ append-assoc (take 2 old) (joined i (packedOf s t)) (drop (2 + i * tBytes s) old)
+      ∙ ap (λ (j : ℕ). take 2 old ++ (joined j (packedOf s t) ++ drop (2 + j * tBytes s) old)) e
+
+-- ---- reading
+
+-- the lengths of t, seed_a and the record
+abbrev Lengths : Numbers → ℕ → ℕ → ℕ → Bool
+Lengths s t seedA public = eqb t (s .k * s .n) && (eqb seedA seedBytes && eqb public (publicBytes s))
+
+-- in the order of reading
+pub lengths-read : (s : Numbers) (public t seedA : ℕ) {x : Bool} → x ≡ Lengths s t seedA public
+    → x ≡ (eqb public (publicBytes s) && (eqb t (s .k * s .n) && eqb seedA seedBytes))
+lengths-read s public t seedA e =
+    e
+    ∙ sym (and-assoc (eqb t (s .k * s .n)) (eqb seedA seedBytes) (eqb public (publicBytes s)))
+    ∙ and-comm (eqb t (s .k * s .n) && eqb seedA seedBytes) (eqb public (publicBytes s))
+
+pub lengths-own : (s : Numbers) (public t seedA : ℕ) {x : Bool} → x ≡ Lengths s t seedA public → x ≡ true → eqb public (publicBytes s) ≡ true
+lengths-own s public t seedA e f =
+    both-first (eqb public (publicBytes s)) (eqb t (s .k * s .n) && eqb seedA seedBytes) (sym (lengths-read s public t seedA e) ∙ f)
+
+-- a record that is read has its length, and so have the outputs
+pub read-takes : {s : Numbers} {public t seedA scratch : List ℕ} → TestsPublic s scratch
+    → 0 ≡ answer (readPublicTests s public (length t) (length seedA)) → TakesPublic s public t seedA
+unfolding readPublicTests
+read-takes {s} {public} {t} {seedA} p e =
+    record {
+      good = p .good;
+      long = same-first (length public) (publicBytes s) outputs passed;
+      polynomials = same-first (length t) (s .k * s .n) (eqb (length seedA) seedBytes) (same-rest (length public) (publicBytes s) outputs passed);
+      seed =
+          eqb-true (length seedA) seedBytes
+          (same-rest (length t) (s .k * s .n) (eqb (length seedA) seedBytes) (same-rest (length public) (publicBytes s) outputs passed));
+    }
+  where
+    outputs : Bool
+    outputs = eqb (length t) (s .k * s .n) && eqb (length seedA) seedBytes
+
+    passed : (eqb (length public) (publicBytes s) && (eqb (length t) (s .k * s .n) && eqb (length seedA) seedBytes)) ≡ true
+    passed = answer-first _ 0 _ (sym e)
+
+-- seed_a of a record
+pub read-seed : {s : Numbers} {public t seedA new : List ℕ} {at : ℕ} → TakesPublic s public t seedA → at ≡ 2 + s .k * tBytes s
+    → new ≡ take (length seedA) (drop at public) → new ≡ seedAOf s public
+unfolding seedAOf
+read-seed p e f = f ∙ rw (p .seed, e)
+
+-- ---- writing
+
+module _ {s : Numbers} {t seedA old : List ℕ} (p : PutsPublic s t seedA old) where
+  -- the mark, t and seed_a one after the other
+  pub put-is : {marks packs new : List ℕ} {at : ℕ}
+      → marks ≡ mark s 1 ++ drop 2 old
+      → packs ≡ take 2 marks ++ (packedT s t ++ drop (2 + s .k * tBytes s) marks)
+      → at ≡ 2 + s .k * tBytes s
+      → new ≡ take at packs ++ (seedA ++ drop (at + length seedA) packs)
+      → new ≡ publicRecord s t seedA
+  unfolding publicRecord
+  put-is {marks} {packs} {new} {at} e f g h =
+      written-all
+      (written-more second at (length seedA) seedA (g ∙ sym long₂) refl (omega (arith, p .long, p .seed)) h)
+      (length-append (mark s 1 ++ packedT s t) seedA ∙ omega (arith, long₂, p .long, p .seed))
+      ∙ append-assoc (mark s 1) (packedT s t) seedA
+    where
+      packed-long : length (packedT s t) ≡ s .k * tBytes s
+      packed-long = packedT-length s t (p .polynomials)
+
+      first : Written (mark s 1) old marks
+      first = written-front 2 refl (omega (arith, p .long)) e
+
+      second : Written (mark s 1 ++ packedT s t) old packs
+      second = written-more first 2 (s .k * tBytes s) (packedT s t) refl packed-long (omega (arith, p .long)) f
+
+      long₂ : length (mark s 1 ++ packedT s t) ≡ 2 + s .k * tBytes s
+      long₂ = length-append (mark s 1) (packedT s t) ∙ ap (λ (n : ℕ). 2 + n) packed-long
+
+-- values and a record that pass the tests
+pub write-puts : {s : Numbers} {t seedA public : List ℕ} {m r : Bool} → Writes s → m ≡ Lengths s (length t) (length seedA) (length public) → m ≡ true
+    → r ≡ tInRange s t → r ≡ true → PutsPublic s t seedA public
+write-puts {s} {t} {seedA} {public} w e f g h =
+    record {
+      writes = w;
+      polynomials = same-first (length t) (s .k * s .n) bytes (sym e ∙ f);
+      below = tInRange-below s t (sym g ∙ h);
+      seed = same-first (length seedA) seedBytes (eqb (length public) (publicBytes s)) passed;
+      long = eqb-true (length public) (publicBytes s) (same-rest (length seedA) seedBytes (eqb (length public) (publicBytes s)) passed);
+    }
+  where
+    bytes : Bool
+    bytes = eqb (length seedA) seedBytes && eqb (length public) (publicBytes s)
+
+    passed : (eqb (length seedA) seedBytes && eqb (length public) (publicBytes s)) ≡ true
+    passed = same-rest (length t) (s .k * s .n) bytes (sym e ∙ f)

@@ -1,0 +1,15 @@
+-- `records::secret::e_start` meets its contract. Assumes nothing.
+use native.Mathlib.Omega.{arith}
+use Rattle.records.specs.SizeLaws.{n-few, row-few}
+use borrow.Author.Needs.{needs}
+use Rattle.records.proofs.secret.e_start.Statement.{statement}
+use Rattle.records.proofs.secret.e_start.Tie as tie
+
+add-result : tie.Need-add-result
+add-result c = omega (arith, n-few (c .before .pre))
+
+returns : tie.Need-returns
+returns c = search needs
+
+pub e-start-spec : {M : Type 1} → statement M
+e-start-spec = tie.close (tie.spec add-result returns)

@@ -1,0 +1,197 @@
+"""The vectors of the vector programs: for each its standard input and what it must write.
+
+A program's cases are made from a fixed seed, and its lines by this program alone. PROGRAMS names
+the programs, each with a function that answers its two files.
+
+shake_vectors: a case is a row of steps, and each step a letter with what it needs:
+
+    A length, bytes   absorbs the bytes at once      a   absorbs them one at a time
+    S length          squeezes as many at once       s   squeezes them one at a time
+    B                 squeezes 136 bytes             .   ends the case, with a line of hexadecimal
+
+A length has two bytes, low first.
+"""
+
+import hashlib
+import os
+import random
+
+BLOCK = 136
+LONGEST = 4096   # of a squeeze
+
+# FIPS 202's examples for SHAKE256: the message, and how its published output of 512 bytes begins.
+# Written here are the first 64 bytes of each; all 512 are asked of both programs.
+PUBLISHED = [
+    (b"",
+     "46b9dd2b0ba88d13233b3feb743eeb243fcd52ea62b81b82b50c27646ed5762f"
+     "d75dc4ddd8c0f200cb05019d67b592f6fc821c49479ab48640292eacb3b7c4be"),
+    (b"\xa3" * 200,
+     "cd8a920ed141aa0407a22d59288652e9d9f1a7ee0c1e7c1ca699424da84a904d"
+     "2d700caae7396ece96604440577da4f3aa22aeb8857f961c4cd8e06f0ae6610b"),
+]
+PUBLISHED_LENGTH = 512
+
+EDGES = [0, 1, BLOCK - 1, BLOCK, BLOCK + 1, 2 * BLOCK - 1, 2 * BLOCK, 2 * BLOCK + 1]
+RANDOM_CASES = 40
+
+
+class Case:
+    """One case: its steps as bytes, and the bytes that are squeezed on the way.
+
+    The sponge is the message absorbed since it was blank, and the number of
+    bytes squeezed of it, or None while absorbing has not ended.
+    """
+
+    def __init__(self):
+        self.steps = b""
+        self.output = b""
+        self.message = b""
+        self.taken = None
+
+    def absorb(self, data, each=False):
+        self.steps += (b"a" if each else b"A") + length_bytes(len(data)) + data
+        if each and not data:
+            return self   # nothing is done
+        if self.taken is not None:
+            self.message, self.taken = b"", None   # an absorb after a squeeze begins afresh
+        self.message += data
+        return self
+
+    def squeeze(self, length, each=False):
+        self.steps += (b"s" if each else b"S") + length_bytes(length)
+        return self if each and not length else self.take(length)
+
+    def squeeze_block(self):
+        self.steps += b"B"
+        return self.take(BLOCK)
+
+    def take(self, length):
+        start = self.taken or 0
+        self.taken = start + length   # also after a squeeze of nothing, which ends absorbing
+        self.output += hashlib.shake_256(self.message).digest(self.taken)[start:]
+        return self
+
+
+def length_bytes(length):
+    return length.to_bytes(2, "little")
+
+
+def published_cases():
+    for message, begins in PUBLISHED:
+        output = hashlib.shake_256(message).digest(PUBLISHED_LENGTH)
+        if not output.hex().startswith(begins):
+            raise ValueError("SHAKE256 here is not that of FIPS 202")
+        yield Case().absorb(message).squeeze(PUBLISHED_LENGTH)
+        yield Case().absorb(message, each=True).squeeze(PUBLISHED_LENGTH, each=True)
+
+
+def edge_cases(rng):
+    """Messages and outputs about the length of a block, at once and in blocks."""
+    for message_length in EDGES:
+        message = rng.randbytes(message_length)
+        for length in EDGES:
+            yield Case().absorb(message).squeeze(length)
+        yield Case().absorb(message, each=True).squeeze_block().squeeze_block()
+    yield Case().squeeze(BLOCK)
+    yield Case().squeeze_block()
+    yield Case().squeeze(32, each=True)
+
+
+def order_cases(rng):
+    """What an absorb after a squeeze does, and a squeeze or an absorb of nothing."""
+    for each in (False, True):
+        yield Case().absorb(b"ab").squeeze(5, each).absorb(b"c", each).squeeze(8)
+        yield Case().absorb(b"ab").squeeze_block().absorb(b"c", each).squeeze_block()
+        yield Case().absorb(b"ab").squeeze(0, each).absorb(b"c", each).squeeze(8)
+        yield Case().absorb(b"ab").squeeze(0, each).squeeze(8, each)
+        yield Case().absorb(b"ab").squeeze(5).absorb(b"", each).squeeze(8)
+        yield Case().absorb(b"ab").absorb(b"", each).absorb(b"c", each).squeeze(8)
+        yield Case().absorb(b"ab", each).squeeze(BLOCK).absorb(b"", each).absorb(b"c").squeeze(8)
+    message = rng.randbytes(3 * BLOCK)
+    for place in (1, BLOCK - 1, BLOCK):
+        yield Case().absorb(message).squeeze(place).absorb(message).squeeze(32)
+        yield Case().absorb(message).squeeze(place).squeeze_block().squeeze(place)
+
+
+def random_cases(rng):
+    """Messages in pieces of uneven size, with pieces of nothing, and outputs likewise."""
+    for _ in range(RANDOM_CASES):
+        case = Case()
+        for size in uneven(rng, rng.choice([40, 400, 4000])):
+            case.absorb(rng.randbytes(size), each=rng.random() < 0.3)
+        for size in uneven(rng, rng.choice([40, 400, 2000])):
+            if rng.random() < 0.2:
+                case.squeeze_block()
+            case.squeeze(size, each=rng.random() < 0.3)
+        yield case
+
+
+def uneven(rng, most):
+    """Up to nine sizes, some of them 0, that sum to at most `most`."""
+    marks = sorted(rng.randint(0, most) for _ in range(rng.randint(1, 7)))
+    sizes = [end - start for start, end in zip([0] + marks, marks)]
+    for _ in range(rng.randint(0, 2)):
+        sizes.insert(rng.randint(0, len(sizes)), 0)
+    return sizes
+
+
+def shake_vectors():
+    rng = random.Random("shake_vectors")
+    cases = [*published_cases(), *edge_cases(rng), *order_cases(rng), *random_cases(rng)]
+    stdin = b"".join(case.steps + b"." for case in cases)
+    stdout = b"".join(case.output.hex().encode() + b"\n" for case in cases)
+    return stdin, stdout
+
+
+PROGRAMS = {"shake_vectors": shake_vectors}
+
+
+def files():
+    """Each file's path below crates/, and its bytes."""
+    for name, make in PROGRAMS.items():
+        stdin, stdout = make()
+        yield os.path.join(name, "stdin"), stdin
+        yield os.path.join(name, "stdout"), stdout
+
+
+def write(crates):
+    for path, data in files():
+        place = os.path.join(crates, path)
+        os.makedirs(os.path.dirname(place), exist_ok=True)
+        with open(place, "wb") as out:
+            out.write(data)
+        print(f"{path}: {len(data)} bytes")
+    return 0
+
+
+def check(crates):
+    """Compares the files with what is made now. Answers the exit status."""
+    passed = failed = 0
+    for path, data in files():
+        found = difference(read(os.path.join(crates, path)), data)
+        if found:
+            failed += 1
+            print(f"{path}: {found}")
+        else:
+            passed += 1
+    print(f"{passed} passed, {failed} failed")
+    return 1 if failed else 0
+
+
+def read(path):
+    try:
+        with open(path, "rb") as source:
+            return source.read()
+    except OSError:
+        return None
+
+
+def difference(got, wanted):
+    """What tells the two apart in words, or nothing where they are the same."""
+    if got is None:
+        return "missing"
+    if got == wanted:
+        return ""
+    at = next((i for i, (a, b) in enumerate(zip(got, wanted)) if a != b), min(len(got), len(wanted)))
+    line = wanted.count(b"\n", 0, at) + 1
+    return f"differs at byte {at}, line {line}; {len(got)} bytes and not {len(wanted)}"
