@@ -2,3 +2,6 @@ pub mod Attempt
 pub mod Search
 pub mod SearchLaws
 pub mod Sign
+pub mod Parts
+pub mod Asks
+pub mod Answers

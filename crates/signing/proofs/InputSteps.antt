@@ -1,0 +1,197 @@
+-- The tests of signing, in their order. Assumes nothing.
+use mathlib.Core.Path.{_≡_, sym, ap, ap₂, _∙_}
+use mathlib.Core.Bool.{Bool, true, false, _&&_}
+use mathlib.Core.List.{List}
+use Prim.Native.Nat.{ℕ, _+_, _*_, _-_, _≤_, _<_, zero-le}
+use native.Mathlib.Nat.{le-antisymm}
+use native.Mathlib.Numerals.{add-one}
+use native.Mathlib.Omega.{arith}
+use lib.Dec.{eqb, leb}
+use lib.ListN.{length, take, drop}
+use borrow.Author.Tests.{le-leb, lt-leb, eqb-true, eq-eqb, ne-eqb}
+use Rattle.whole.specs.Parts.{part-length}
+use Rattle.whole.specs.Refusal.{answer, eachBelow}
+use Rattle.whole.specs.RefusalLaws.{answer-pass, answer-fail, answer-none, both-first, not-first, not-second}
+use Rattle.ring.specs.Largest.{sumPasses, Few}
+use Rattle.sets.specs.declared.Numbers.{Numbers}
+use Rattle.sets.specs.Good.{Good}
+use Rattle.sets.specs.Limits.{messageLimit, budgetLimit}
+use Rattle.records.specs.Layout.{marked, seedBytes, secretBytes, signatureBytes}
+use Rattle.records.specs.Secret.{sOf, allE, eOf, inByteRange}
+use Rattle.records.specs.PublicLaws.{row-fits}
+use Rattle.keys.specs.Key.{eachEPasses}
+use Rattle.signing.specs.Sign.{signTests}
+use Rattle.signing.specs.Answers.{secretsTests, valueTests}
+use Rattle.signing.specs.Asks.{TestsE, TestsValues, TestsInputs}
+use Rattle.signing.proofs.Rows.{lent-is, each-none, each-more, each-fails}
+
+-- ---- checkE
+
+-- e_1..e_i pass
+pub record Checking (set : Numbers) (e slots : List ℕ) (i : ℕ) : Type 0 where
+  pub near : i ≤ set .k
+  pub room : length slots ≡ set .h
+  pub passed : eachBelow i (λ j. sumPasses (set .h) (set .e) (eOf set e j)) ≡ true
+
+pub few-slots : {set : Numbers} {slots : List ℕ} → Good set → length slots ≡ set .h → Few slots
+few-slots good e = record { few = omega (arith, good .h-drawn) }
+
+module _ {set : Numbers} {e first : List ℕ} (t : TestsE set e first) where
+  pub checking-none : Checking set e first 0
+  checking-none = record { near = zero-le; room = t .places-long; passed = each-none (λ j. sumPasses (set .h) (set .e) (eOf set e j)) }
+
+  module _ {slots : List ℕ} {i : ℕ} (h : Checking set e slots i) where
+    pub checking-few : Few slots
+    checking-few = few-slots (t .good) (h .room)
+
+    pub checking-fits : i < set .k → set .n * i + set .n ≤ length e
+    checking-fits l = omega (arith, row-fits (set .n) (set .k) i l, t .e-long)
+
+    same : {r : Bool} → r ≡ sumPasses (length slots) (set .e) (take (set .n * i + set .n - set .n * i) (drop (set .n * i) e))
+        → r ≡ sumPasses (set .h) (set .e) (eOf set e i)
+    same f = f ∙ ap₂ (λ (n : ℕ) (x : List ℕ). sumPasses n (set .e) x) (h .room) (lent-is (set .n) i e)
+
+    pub checking-more : {new : List ℕ} {r : Bool} → i < set .k → length new ≡ length slots
+        → r ≡ sumPasses (length slots) (set .e) (take (set .n * i + set .n - set .n * i) (drop (set .n * i) e)) → r ≡ true
+        → Checking set e new (i + 1)
+    checking-more l k f g =
+        record {
+          near = rw add-one l;
+          room = k ∙ h .room;
+          passed = each-more i (λ j. sumPasses (set .h) (set .e) (eOf set e j)) (h .passed) (sym (same f) ∙ g);
+        }
+
+    pub checking-fails : {r : Bool} → i < set .k
+        → r ≡ sumPasses (length slots) (set .e) (take (set .n * i + set .n - set .n * i) (drop (set .n * i) e)) → r ≡ false
+        → false ≡ eachEPasses set e
+    unfolding eachEPasses
+    checking-fails l f g = sym (each-fails (set .k) i (λ j. sumPasses (set .h) (set .e) (eOf set e j)) l (sym (same f) ∙ g))
+
+    pub checking-all : set .k ≤ i → true ≡ eachEPasses set e
+    unfolding eachEPasses
+    checking-all l = sym (ap (λ (j : ℕ). eachBelow j (λ j. sumPasses (set .h) (set .e) (eOf set e j))) whole ∙ h .passed)
+      where
+        whole : set .k ≡ i
+        whole = le-antisymm l (h .near)
+
+-- ---- s and e_1..e_k
+
+module _ (set : Numbers) (s e : List ℕ) {ranged : Bool} (r : ranged ≡ (inByteRange s && inByteRange e)) where
+  pub secrets-bytes : ranged ≡ false → 5 ≡ answer (secretsTests set s e)
+  unfolding secretsTests
+  secrets-bytes f = sym (answer-fail 5 _ (sym r ∙ f))
+
+  module _ (p : ranged ≡ true) {h : ℕ} (long : h ≡ set .h) {sum : Bool} (m : sum ≡ sumPasses h (set .s) s) where
+    sum-is : sumPasses (set .h) (set .s) s ≡ sum
+    sum-is = ap (λ (n : ℕ). sumPasses n (set .s) s) (sym long) ∙ sym m
+
+    pub secrets-s : sum ≡ false → 6 ≡ answer (secretsTests set s e)
+    unfolding secretsTests
+    secrets-s f = sym (answer-pass 5 _ (sym r ∙ p) ∙ answer-fail 6 _ (sum-is ∙ f))
+
+    module _ (q : sum ≡ true) {each : Bool} (n : each ≡ eachEPasses set e) where
+      pub secrets-e : each ≡ false → 7 ≡ answer (secretsTests set s e)
+      unfolding secretsTests
+      secrets-e f = sym (answer-pass 5 _ (sym r ∙ p) ∙ answer-pass 6 _ (sum-is ∙ q) ∙ answer-fail 7 _ (sym n ∙ f))
+
+      pub secrets-pass : each ≡ true → 0 ≡ answer (secretsTests set s e)
+      unfolding secretsTests
+      secrets-pass f =
+          sym (answer-pass 5 _ (sym r ∙ p) ∙ answer-pass 6 _ (sum-is ∙ q) ∙ answer-pass 7 _ (sym n ∙ f) ∙ answer-none)
+
+-- ---- the tests before them
+
+module _ (set : Numbers) (secret : List ℕ) (message budget : ℕ) {mark : Bool} (m : mark ≡ marked set 2 secret) where
+  pub values-mark : mark ≡ false → 2 ≡ answer (valueTests set secret message budget)
+  unfolding valueTests
+  values-mark f = sym (answer-fail 2 _ (sym m ∙ f))
+
+  module _ (p : mark ≡ true) where
+    pub values-message : messageLimit < message → 3 ≡ answer (valueTests set secret message budget)
+    unfolding valueTests
+    values-message l = sym (answer-pass 2 _ (sym m ∙ p) ∙ answer-fail 3 _ (lt-leb message messageLimit l))
+
+    module _ (l : message ≤ messageLimit) {fits : Bool} (b : fits ≡ (leb 1 budget && leb budget budgetLimit)) where
+      pub values-budget : fits ≡ false → 4 ≡ answer (valueTests set secret message budget)
+      unfolding valueTests
+      values-budget f =
+          sym (answer-pass 2 _ (sym m ∙ p) ∙ answer-pass 3 _ (le-leb message messageLimit l) ∙ answer-fail 4 _ (sym b ∙ f))
+
+      pub values-rest : {x : ℕ} {s e : List ℕ} → fits ≡ true → s ≡ sOf set secret → e ≡ allE set secret → x ≡ answer (secretsTests set s e)
+          → x ≡ answer (valueTests set secret message budget)
+      unfolding valueTests
+      values-rest f u v g =
+          g ∙ ap₂ (λ (x y : List ℕ). answer (secretsTests set x y)) u v
+          ∙ sym (answer-pass 2 _ (sym m ∙ p) ∙ answer-pass 3 _ (le-leb message messageLimit l) ∙ answer-pass 4 _ (sym b ∙ f))
+
+-- ---- where s and e_1..e_k stand
+
+module _ (set : Numbers) (secret : List ℕ) (long : length secret ≡ secretBytes set) {at end : ℕ} (a : at ≡ 2 + set .n) (b : end ≡ 2 + set .n + set .k * set .n) where
+  pub s-end : at ≤ length secret
+  s-end = omega arith
+
+  pub e-ends : end ≤ length secret
+  e-ends = omega arith
+
+  s-size : at - 2 ≡ set .n
+  s-size = omega arith
+
+  e-size : end - at ≡ set .k * set .n
+  e-size = omega arith
+
+  pub s-lent : take (at - 2) (drop 2 secret) ≡ sOf set secret
+  unfolding sOf
+  s-lent = ap (λ (m : ℕ). take m (drop 2 secret)) s-size
+
+  pub s-long : length (take (at - 2) (drop 2 secret)) ≡ set .n
+  s-long = ap (λ (m : ℕ). length (take m (drop 2 secret))) s-size ∙ part-length 2 (set .n) secret (omega arith)
+
+  pub e-lent : take (end - at) (drop at secret) ≡ allE set secret
+  unfolding allE
+  e-lent = ap₂ (λ (m j : ℕ). take m (drop j secret)) e-size a
+
+  pub e-long : length (take (end - at) (drop at secret)) ≡ set .k * set .n
+  e-long = ap₂ (λ (m j : ℕ). length (take m (drop j secret))) e-size a ∙ part-length (2 + set .n) (set .k * set .n) secret (omega arith)
+
+pub e-tests : {set : Numbers} {secret slots : List ℕ} (t : TestsValues set secret slots) {at end : ℕ} (a : at ≡ 2 + set .n) (b : end ≡ 2 + set .n + set .k * set .n)
+    → TestsE set (take (end - at) (drop at secret)) slots
+e-tests {set} {secret} t a b = record { good = t .good; e-long = e-long set secret (t .long) a b; places-long = t .places-long }
+
+-- ---- and all of them
+
+module _ (set : Numbers) (secret : List ℕ) (message r budget signature : ℕ) {right : Bool}
+    (e : right ≡ (eqb (length secret) (secretBytes set) && (eqb r seedBytes && eqb signature (signatureBytes set)))) where
+  pub inputs-length : right ≡ false → 1 ≡ answer (signTests set secret message r budget signature)
+  unfolding signTests
+  inputs-length f = sym (answer-fail 1 _ (sym e ∙ f))
+
+  pub inputs-rest : {x : ℕ} → right ≡ true → x ≡ answer (valueTests set secret message budget) → x ≡ answer (signTests set secret message r budget signature)
+  unfolding signTests valueTests secretsTests
+  inputs-rest f g = g ∙ sym (answer-pass 1 _ (sym e ∙ f))
+
+  pub inputs-values : {slots : List ℕ} → right ≡ true → TestsInputs set slots → TestsValues set secret slots
+  inputs-values f t =
+      record {
+        good = t .good;
+        long = eqb-true (length secret) (secretBytes set) (both-first (eqb (length secret) (secretBytes set)) (eqb r seedBytes && eqb signature (signatureBytes set)) (sym e ∙ f));
+        places-long = t .places-long;
+      }
+
+-- ---- the lengths and the budget
+
+module _ (set : Numbers) (secret r signature : ℕ) {a : ℕ} (e : a ≡ secretBytes set) where
+  pub lengths-first : (secret ≡ a → ⊥) → false ≡ (eqb secret (secretBytes set) && (eqb r seedBytes && eqb signature (signatureBytes set)))
+  lengths-first f = sym (not-first {a = eqb secret (secretBytes set)} (eqb r seedBytes && eqb signature (signatureBytes set)) (rw (← e) (ne-eqb secret a f)))
+
+  pub lengths-second : (r ≡ 32 → ⊥) → false ≡ (eqb secret (secretBytes set) && (eqb r seedBytes && eqb signature (signatureBytes set)))
+  lengths-second f = sym (not-second (eqb secret (secretBytes set)) (not-first (eqb signature (signatureBytes set)) (ne-eqb r 32 f)))
+
+  pub lengths-all : {b : ℕ} → secret ≡ a → r ≡ 32 → b ≡ signatureBytes set
+      → eqb signature b ≡ (eqb secret (secretBytes set) && (eqb r seedBytes && eqb signature (signatureBytes set)))
+  lengths-all f g h = ap (eqb signature) h ∙ sym (rw (eq-eqb secret (secretBytes set) (f ∙ e), eq-eqb r 32 g))
+
+pub budget-high : (budget : ℕ) → 1 ≤ budget → leb budget 1024 ≡ (leb 1 budget && leb budget budgetLimit)
+budget-high budget l = sym (rw (le-leb 1 budget l))
+
+pub budget-low : (budget : ℕ) → budget < 1 → false ≡ (leb 1 budget && leb budget budgetLimit)
+budget-low budget l = sym (not-first (leb budget budgetLimit) (lt-leb 1 budget l))

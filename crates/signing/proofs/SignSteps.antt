@@ -1,0 +1,211 @@
+-- Signing after its tests, and the answer of the tests. Assumes nothing.
+use mathlib.Core.Path.{_≡_, refl, sym, ap, subst, _∙_}
+use mathlib.Core.Bool.{Bool, true, false, cond, _&&_, true≢false}
+use mathlib.Core.List.{List}
+use Prim.Native.Nat.{ℕ, zero, suc, _+_, _*_, _-_, _≤_}
+use native.Mathlib.Omega.{arith}
+use lib.Dec.{eqb, leb, lit<, lit≤}
+use lib.IntN.{ℤ}
+use lib.ListN.{length, take, drop}
+use borrow.Author.Tests.{eqb-true, leb-true}
+use Rattle.whole.specs.Refusal.{answer, every, eachBelow}
+use Rattle.whole.specs.RefusalLaws.{answer-first, answer-rest, both-first, both-second}
+use Rattle.rounding.specs.Tests.{fitsByte}
+use Rattle.sets.specs.declared.Numbers.{Numbers}
+use Rattle.sets.specs.SetI.{setI, setI-good}
+use Rattle.sets.specs.Limits.{budgetLimit}
+use Rattle.sampling.specs.Streams.{yOf, encOf, challenge, messageDigest, randOf}
+use Rattle.records.specs.Layout.{seedBytes, secretBytes, signatureBytes}
+use Rattle.records.specs.Secret.{secretSeedA, secretSeedY, secretG}
+use Rattle.records.specs.Signature.{signatureRecord, zInRange}
+use Rattle.signing.specs.declared.search.Searched.{Searched}
+use Rattle.signing.specs.Attempt.{Key, passes, fails, overflows, highsOf, vOf, zFrom, wOf, wPasses, attemptPasses, answered, tried, attempt}
+use Rattle.signing.specs.Search.{Found, found, none, overflow, search}
+use Rattle.signing.specs.SearchLaws.{found-smallest}
+use Rattle.signing.specs.Sign.{keyOf, signTests, signSearch, foundNumber, foundCounter, foundSignature, signNumber, signCounter, signSignature}
+use Rattle.signing.specs.Answers.{foundOf, keyWith}
+use Rattle.signing.specs.Asks.{Fitting, Places, Secrets, SearchesKey, Hashes, Signs}
+use Rattle.signing.proofs.Rows.{n-few, row-few}
+use Rattle.signing.proofs.InputSteps.{s-lent, e-lent, s-long, e-long}
+use Rattle.signing.specs.declared.search.Searched.the-variants as searched
+
+-- ---- z of an attempt that passes is in its range
+
+answered-inside : (set : Numbers) (key : Key) (y : List ℤ) (v : ℕ → List ℕ) (d : List ℕ) (z : List ℤ) (c′ : List ℕ) (b : Bool)
+    → attemptPasses set key y v (encOf set d) ≡ b → cond b (passes (zFrom set (key .s) y (encOf set d)) d) fails ≡ passes z c′ → zInRange set z ≡ true
+unfolding attemptPasses
+answered-inside set key y v d z c′ true t e =
+    let is : zFrom set (key .s) y (encOf set d) ≡ z = cc in
+    subst (λ (x : List ℤ). zInRange set x ≡ true) is
+    (both-first (zInRange set (zFrom set (key .s) y (encOf set d))) (eachBelow (set .k) (λ i. wPasses set (wOf set (key .e) v (encOf set d) i))) t)
+answered-inside set key y v d z c′ false t e = absurd (let x : _≡_ {A = ℕ} 0 1 = cc in omega arith)
+
+tried-inside : (set : Numbers) (key : Key) (digest : List ℕ) (y : List ℤ) (v : ℕ → List ℕ) (z : List ℤ) (c′ : List ℕ) (b : Bool)
+    → cond b (answered set key y v (challenge set (highsOf set v) digest (key .g))) overflows ≡ passes z c′ → zInRange set z ≡ true
+unfolding answered
+tried-inside set key digest y v z c′ true e =
+    answered-inside set key y v (challenge set (highsOf set v) digest (key .g)) z c′ _ refl e
+tried-inside set key digest y v z c′ false e = absurd (let x : _≡_ {A = ℕ} 0 1 = cc in omega arith)
+
+attempt-inside : (set : Numbers) (key : Key) (digest rand : List ℕ) (counter : ℕ) (z : List ℤ) (c′ : List ℕ)
+    → attempt set key digest rand counter ≡ passes z c′ → zInRange set z ≡ true
+unfolding attempt tried
+attempt-inside set key digest rand counter z c′ e =
+    tried-inside set key digest (yOf set rand counter) (vOf set (key .seedA) (yOf set rand counter)) z c′ (every fitsByte (highsOf set (vOf set (key .seedA) (yOf set rand counter)))) e
+
+pub found-inside : (set : Numbers) (key : Key) (digest rand : List ℕ) (budget counter : ℕ) (z : List ℤ) (c′ : List ℕ)
+    → found counter z c′ ≡ search (attempt set key digest rand) budget → zInRange set z ≡ true
+found-inside set key digest rand budget counter z c′ e =
+    attempt-inside set key digest rand counter z c′ (found-smallest (attempt set key digest rand) budget 1 counter z c′ (sym e) .here)
+
+-- ---- the parts of the secret record
+
+module _ {set : Numbers} {secret : List ℕ} {budget : ℕ} (k : SearchesKey set secret budget) {at seeds : ℕ} (a : at ≡ 2 + set .n) (b : seeds ≡ 2 + set .n + set .k * set .n) where
+  pub key-secrets : Secrets set (take (at - 2) (drop 2 secret)) (take (seeds - at) (drop at secret))
+  key-secrets = record { fitting = k .fitting; s-long = s-long set secret (k .long) a b; e-long = e-long set secret (k .long) a b }
+
+  pub key-fits : seeds + 104 ≤ length secret
+  key-fits = omega (arith, k .long)
+
+  -- every place in the record fits a word
+  pub key-few : seeds + 104 ≤ 17000000
+  key-few = omega (arith, row-few (k .fitting .good), n-few (k .fitting .good))
+
+  pub key-is : keyWith (take (at - 2) (drop 2 secret)) (take (seeds - at) (drop at secret)) (take (seeds + 32 - seeds) (drop seeds secret)) (take (seeds + 104 - (seeds + 64)) (drop (seeds + 64) secret)) ≡ keyOf set secret
+  unfolding keyOf secretSeedA secretG
+  key-is = rw (s-lent set secret (k .long) a b, e-lent set secret (k .long) a b, seed-size, g-size, g-at) (rw b refl)
+    where
+      seed-size : seeds + 32 - seeds ≡ 32
+      seed-size = omega arith
+
+      g-size : seeds + 104 - (seeds + 64) ≡ 40
+      g-size = omega arith
+
+      g-at : seeds + 64 ≡ seeds + 32 + 32
+      g-at = omega arith
+
+module _ {set : Numbers} {secret digest rand : List ℕ} (h : Hashes set secret digest rand) {seeds : ℕ} (b : seeds ≡ 2 + set .n + set .k * set .n) where
+  pub hash-fits : seeds + 32 + 32 ≤ length secret
+  hash-fits = omega (arith, h .long)
+
+  pub hash-few : seeds + 104 ≤ 17000000
+  hash-few = omega (arith, row-few (h .good), n-few (h .good))
+
+  pub hash-rand : {new made : List ℕ} (r message : List ℕ) → made ≡ messageDigest set message
+      → new ≡ randOf set (take (seeds + 32 + 32 - (seeds + 32)) (drop (seeds + 32) secret)) r made
+      → new ≡ randOf set (secretSeedY set secret) r (messageDigest set message)
+  unfolding secretSeedY
+  hash-rand r message e f = f ∙ rw (e, size, b)
+    where
+      size : seeds + 32 + 32 - (seeds + 32) ≡ 32
+      size = omega arith
+
+-- ---- what was found
+
+pub sign-search : (set : Numbers) (secret message r : List ℕ) (budget : ℕ) {digest rand : List ℕ} {f : Found}
+    → digest ≡ messageDigest set message → rand ≡ randOf set (secretSeedY set secret) r (messageDigest set message)
+    → f ≡ search (attempt set (keyOf set secret) digest rand) budget → f ≡ signSearch set secret message r budget
+unfolding signSearch
+sign-search set secret message r budget d n e = e ∙ rw (n, d)
+
+module _ {x : Searched} {f : Found} (z : List ℤ) (c′ : List ℕ) (e : foundOf x z c′ ≡ f) where
+  pub sign-found : (counter : ℕ) → x ≡ searched.Found counter → found counter z c′ ≡ f
+  sign-found counter h = ap (λ (t : Searched). foundOf t z c′) (sym h) ∙ e
+
+  pub sign-nothing : x ≡ searched.Nothing → none ≡ f
+  sign-nothing h = ap (λ (t : Searched). foundOf t z c′) (sym h) ∙ e
+
+  pub sign-overflow : x ≡ searched.Overflow → overflow ≡ f
+  sign-overflow h = ap (λ (t : Searched). foundOf t z c′) (sym h) ∙ e
+
+module _ (set : Numbers) {f : Found} (old : List ℕ) where
+  pub found-answers : {new : List ℕ} (counter : ℕ) (z : List ℤ) (c′ : List ℕ) → found counter z c′ ≡ f → new ≡ signatureRecord set z c′
+      → (0 ≡ foundNumber f) × ((counter ≡ foundCounter f) × (new ≡ foundSignature set f old))
+  found-answers counter z c′ e w = (ap foundNumber e, (ap foundCounter e, w ∙ ap (λ (t : Found). foundSignature set t old) e))
+
+  pub nothing-answers : none ≡ f → (8 ≡ foundNumber f) × ((0 ≡ foundCounter f) × (old ≡ foundSignature set f old))
+  nothing-answers e = (ap foundNumber e, (ap foundCounter e, ap (λ (t : Found). foundSignature set t old) e))
+
+  pub overflow-answers : overflow ≡ f → (10 ≡ foundNumber f) × ((0 ≡ foundCounter f) × (old ≡ foundSignature set f old))
+  overflow-answers e = (ap foundNumber e, (ap foundCounter e, ap (λ (t : Found). foundSignature set t old) e))
+
+-- ---- the tests' answer
+
+module _ (set : Numbers) (f : Found) (old : List ℕ) where
+  refusal-is : (number : ℕ) {n k : ℕ} → eqb number 0 ≡ false → n ≡ number → k ≡ 0
+      → (n ≡ signNumber number f) × ((k ≡ signCounter number f) × (old ≡ signSignature set number f old))
+  refusal-is zero h e c = absurd (true≢false h)
+  refusal-is (suc m) h e c = (e, (c, refl))
+
+  -- a test that does not pass
+  pub refused-answers : {tested : ℕ} (number : ℕ) {n k : ℕ} {b : Bool} → tested ≡ number → b ≡ eqb tested 0 → b ≡ false → n ≡ tested → k ≡ 0
+      → (n ≡ signNumber number f) × ((k ≡ signCounter number f) × (old ≡ signSignature set number f old))
+  refused-answers number e p t n k = refusal-is number (ap (λ (m : ℕ). eqb m 0) (sym e) ∙ sym p ∙ t) (n ∙ e) k
+
+  -- every test passes
+  pub passed-answers : {number n k : ℕ} {new : List ℕ} → number ≡ 0
+      → (n ≡ foundNumber f) × ((k ≡ foundCounter f) × (new ≡ foundSignature set f old))
+      → (n ≡ signNumber number f) × ((k ≡ signCounter number f) × (new ≡ signSignature set number f old))
+  passed-answers e t = rw e t
+
+pub tests-pass : {tested number : ℕ} {b : Bool} → tested ≡ number → b ≡ eqb tested 0 → b ≡ true → number ≡ 0
+tests-pass {tested} e p t = sym e ∙ eqb-true tested 0 (sym p ∙ t)
+
+module _ (set : Numbers) (secret : List ℕ) (message r budget signature : ℕ) (e : answer (signTests set secret message r budget signature) ≡ 0) where
+  lengths : (eqb (length secret) (secretBytes set) && (eqb r seedBytes && eqb signature (signatureBytes set))) ≡ true
+  unfolding signTests
+  lengths = answer-first _ 0 _ e
+
+  pub tested-secret : length secret ≡ secretBytes set
+  tested-secret = eqb-true (length secret) (secretBytes set) (both-first (eqb (length secret) (secretBytes set)) (eqb r seedBytes && eqb signature (signatureBytes set)) lengths)
+
+  pub tested-signature : signature ≡ signatureBytes set
+  tested-signature =
+      eqb-true signature (signatureBytes set)
+      (both-second (eqb r seedBytes) (eqb signature (signatureBytes set)) (both-second (eqb (length secret) (secretBytes set)) (eqb r seedBytes && eqb signature (signatureBytes set)) lengths))
+
+  pub tested-budget : budget ≤ budgetLimit
+  unfolding signTests
+  tested-budget =
+      leb-true budget budgetLimit
+      (both-second (leb 1 budget) (leb budget budgetLimit) (answer-first _ 3 _ (answer-rest _ 2 _ (answer-rest _ 1 _ (answer-rest _ 0 _ e)))))
+
+-- ---- set I
+
+fitting-i : Fitting setI
+fitting-i = record { good = setI-good; z-narrow = lit< tt; y-small = lit≤ tt; c-small = lit≤ tt }
+
+module _ {set : Numbers} (e : set ≡ setI) where
+  pub signs-i : {slots digest rand : List ℕ} → length slots ≡ 25 → length digest ≡ 40 → length rand ≡ 32 → Signs set slots digest rand
+  signs-i s d r = rw e (record { fitting = fitting-i; slots-long = s; digest-long = d; rand-long = r })
+
+  pub places-i : {y : List ℤ} {yr a v bytes ps : List ℕ} {ss z : List ℤ} {c′ : List ℕ}
+      → length y ≡ 1024 → length yr ≡ 1024 → length a ≡ 1024 → length v ≡ 4096 → length bytes ≡ 1024 → length ps ≡ 25 → length ss ≡ 25 → length z ≡ 1024 → length c′ ≡ 32
+      → Places set y yr a v bytes ps ss z c′
+  places-i y yr a v bytes ps ss z c′ =
+      rw e
+      (record {
+        y-long = y;
+        yr-long = yr;
+        a-long = a;
+        v-long = v;
+        bytes-long = bytes;
+        ps-long = ps;
+        ss-long = ss;
+        z-long = z;
+        c-long = c′;
+      })
+
+  pub signed-i : {n k : ℕ} (secret message r : List ℕ) (budget : ℕ) (old : List ℕ) {new : List ℕ}
+      → (n ≡ signNumber (answer (signTests set secret (length message) (length r) budget (length old))) (signSearch set secret message r budget))
+      × ((k ≡ signCounter (answer (signTests set secret (length message) (length r) budget (length old))) (signSearch set secret message r budget))
+      × (new ≡ signSignature set (answer (signTests set secret (length message) (length r) budget (length old))) (signSearch set secret message r budget) old))
+      → (n ≡ signNumber (answer (signTests setI secret (length message) (length r) budget (length old))) (signSearch setI secret message r budget))
+      × ((k ≡ signCounter (answer (signTests setI secret (length message) (length r) budget (length old))) (signSearch setI secret message r budget))
+      × (new ≡ signSignature setI (answer (signTests setI secret (length message) (length r) budget (length old))) (signSearch setI secret message r budget) old))
+  signed-i {n} {k} secret message r budget old {new} t =
+      subst
+      (λ (s : Numbers). (n ≡ signNumber (answer (signTests s secret (length message) (length r) budget (length old))) (signSearch s secret message r budget))
+      × ((k ≡ signCounter (answer (signTests s secret (length message) (length r) budget (length old))) (signSearch s secret message r budget))
+      × (new ≡ signSignature s (answer (signTests s secret (length message) (length r) budget (length old))) (signSearch s secret message r budget) old)))
+      e t

@@ -1,0 +1,136 @@
+// The tests of what is lent to a signer, in document 01's order.
+use sets::Numbers;
+ghost use mathlib.Core.Path.{_≡_};
+ghost use mathlib.Core.Bool.{_&&_};
+ghost use lib.Dec.{eqb, leb};
+ghost use lib.ListN.{length};
+ghost use Rattle.whole.specs.Refusal.{answer};
+ghost use Rattle.sets.specs.Good.{Good};
+ghost use Rattle.sets.specs.Limits.{budgetLimit};
+ghost use Rattle.records.specs.Layout.{seedBytes, secretBytes, signatureBytes};
+ghost use Rattle.keys.specs.Key.{eachEPasses};
+ghost use Rattle.signing.specs.Sign.{signTests};
+ghost use Rattle.signing.specs.Answers.{secretsTests, valueTests, inputsNumber};
+ghost use Rattle.signing.specs.Asks.{TestsE, TestsValues, TestsInputs};
+
+// What the tests answer.
+pub enum Inputs {
+    // 0: every test passes
+    Pass,
+    // 1: a length is not the one named
+    Length,
+    // 2: the secret record's mark is wrong
+    Mark,
+    // 3: the message is too long
+    Message,
+    // 4: the budget is outside 1 to 1,024
+    Budget,
+    // 5: a secret byte is −128
+    Secret,
+    // 6: checkS does not pass
+    SumS,
+    // 7: checkE does not pass for some e_i
+    SumE,
+}
+
+// Whether the secret record, r and the signature have their lengths.
+fn lengths(set: Numbers, secret: usize, r: usize, signature: usize) -> bool
+    requires { ⌜ Good set ⌝ }
+    ensures { λ x. ⌜ x ≡ (eqb secret (secretBytes set) && (eqb r seedBytes && eqb signature (signatureBytes set))) ⌝ }
+{
+    if secret == records::secret::secret_bytes(set) {
+        if r == 32 {
+            signature == records::signature::signature_bytes(set)
+        } else {
+            false
+        }
+    } else {
+        false
+    }
+}
+
+// Whether the budget is from 1 to 1,024.
+fn budget_fits(budget: u32) -> bool
+    ensures { λ r. ⌜ r ≡ (leb 1 budget && leb budget budgetLimit) ⌝ }
+{
+    if 1 <= budget { budget <= 1024 } else { false }
+}
+
+// Whether checkE passes for every e_i. slots takes the h largest of one e_i at a time.
+fn each_e(set: Numbers, e: &[u8], slots: &mut [u32]) -> bool
+    requires { ⌜ TestsE set (now e) (now slots) ⌝ }
+    ensures { λ r. ⌜ r ≡ eachEPasses set (now (e .entry)) ⌝ }
+{
+    let n = set.n;
+    let k = set.k;
+    let mut i = 0;
+    while i < k {
+        let start = n * i;
+        if !ring::largest::sum_passes(&e[start..start + n], slots, set.e) {
+            return false;
+        }
+        i += 1;
+    }
+    true
+}
+
+// Tests 5 to 7, of s and e_1..e_k.
+fn test_secrets(set: Numbers, s: &[u8], e: &[u8], slots: &mut [u32]) -> Inputs
+    requires { ⌜ TestsE set (now e) (now slots) ⌝ }
+    ensures { λ r. ⌜ inputsNumber r ≡ answer (secretsTests set (now (s .entry)) (now (e .entry))) ⌝ }
+{
+    if !records::secret::both_in_range(s, e) {
+        return Inputs::Secret;
+    }
+    if !ring::largest::sum_passes(s, slots, set.s) {
+        return Inputs::SumS;
+    }
+    if !each_e(set, e, slots) {
+        return Inputs::SumE;
+    }
+    Inputs::Pass
+}
+
+// Tests 2 to 7, of a secret record of the right length, a message of so many bytes and the budget.
+pub fn test_values(
+    set: Numbers,
+    secret: &[u8],
+    message: usize,
+    budget: u32,
+    slots: &mut [u32],
+) -> Inputs
+    requires { ⌜ TestsValues set (now secret) (now slots) ⌝ }
+    ensures { λ r. ⌜ inputsNumber r ≡ answer (valueTests set (now (secret .entry)) message budget) ⌝ }
+{
+    if !records::pieces::is_marked(set, 2, secret) {
+        return Inputs::Mark;
+    }
+    if 32768 < message {
+        return Inputs::Message;
+    }
+    if !budget_fits(budget) {
+        return Inputs::Budget;
+    }
+    let at = records::secret::e_start(set);
+    let end = records::secret::seed_a_start(set);
+    test_secrets(set, &secret[2..at], &secret[at..end], slots)
+}
+
+// All tests, of a secret record, a message, r and a signature of so many bytes, and the budget.
+pub fn test_inputs(
+    set: Numbers,
+    secret: &[u8],
+    message: usize,
+    r: usize,
+    budget: u32,
+    signature: usize,
+    slots: &mut [u32],
+) -> Inputs
+    requires { ⌜ TestsInputs set (now slots) ⌝ }
+    ensures { λ x. ⌜ inputsNumber x ≡ answer (signTests set (now (secret .entry)) message r budget signature) ⌝ }
+{
+    if !lengths(set, secret.len(), r, signature) {
+        return Inputs::Length;
+    }
+    test_values(set, secret, message, budget, slots)
+}
