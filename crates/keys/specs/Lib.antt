@@ -1,1 +1,4 @@
+pub mod Answers
 pub mod Key
+pub mod Steps
+pub mod Asks

@@ -1,0 +1,153 @@
+-- The tests of key making in a row, what each of them makes of the answer, and the outputs after it.
+--     second-decides                                        two tests of which the first passes
+--     key-length, key-secret, key-sumS, key-sumE, key-done  the tests
+--     lengths-of                                            what the first test says
+--     kept, written                                         an output after a refusal, and after the work
+-- Assumes nothing.
+use mathlib.Core.Path.{_≡_, refl, sym, ap, subst, _∙_}
+use mathlib.Core.Bool.{Bool, true, false, _&&_}
+use mathlib.Core.Logic.{⊎-elim}
+use mathlib.Core.List.{List, [], _∷_}
+use Prim.Native.Nat.{ℕ, suc, _*_}
+use native.Mathlib.Omega.{arith}
+use lib.Dec.{eqb, lit<}
+use lib.ListN.{length}
+use types.Run.{OneOf}
+use denote.Enum.Declared.{tagOf}
+use borrow.Author.Tests.{eqb-true, ne-eqb}
+use Rattle.whole.specs.Refusal.{answer, after}
+use Rattle.whole.specs.RefusalLaws.{not-first, not-second, both-first, both-second, answer-pass, answer-fail, answer-none, answer-first, after-done, after-refused}
+use Rattle.ring.specs.Largest.{sumPasses}
+use Rattle.sets.specs.declared.Numbers.{Numbers}
+use Rattle.sets.specs.Good.{Good}
+use Rattle.sets.specs.SetI.{setI, setI-good}
+use Rattle.records.specs.Layout.{seedBytes, publicBytes, secretBytes}
+use Rattle.records.specs.Secret.{inByteRange}
+use Rattle.keys.specs.declared.KeyAnswer.{KeyAnswer}
+use Rattle.keys.specs.declared.KeyAnswer.the-variants.{Done, Length, Secret, SumS, SumE}
+use Rattle.keys.specs.Answers.{keyAnswerNumber}
+use Rattle.keys.specs.Asks.{ForBoth, ForE, ForTests, Scratch}
+use Rattle.keys.specs.Key.{eachEPasses, makeKeyTests, publicOf, secretOf}
+use Rattle.keys.proofs.KeyAnswer.{the-type}
+
+-- where the first of two tests passes the second decides
+pub second-decides : {a : Bool} (b : Bool) → a ≡ true → b ≡ (a && b)
+second-decides b e = rw e
+
+-- ---- the tests
+
+abbrev pub Lengths : Numbers → ℕ → ℕ → ℕ → ℕ → ℕ → ℕ → Bool
+Lengths set s e seedA seedY public secret =
+    eqb s (set .n) && (eqb e (set .k * set .n) && (eqb seedA seedBytes && (eqb seedY seedBytes && (eqb public (publicBytes set) && eqb secret (secretBytes set)))))
+
+-- a length that is not the one named
+module _ (set : Numbers) (s e seedA seedY public secret : ℕ) where
+  pub s-unlike : (s ≡ set .n → ⊥) → Lengths set s e seedA seedY public secret ≡ false
+  s-unlike h = not-first _ (ne-eqb s (set .n) h)
+
+  pub e-unlike : (e ≡ set .k * set .n → ⊥) → Lengths set s e seedA seedY public secret ≡ false
+  e-unlike h = not-second (eqb s (set .n)) (not-first _ (ne-eqb e (set .k * set .n) h))
+
+  pub seedA-unlike : (seedA ≡ seedBytes → ⊥) → Lengths set s e seedA seedY public secret ≡ false
+  seedA-unlike h = not-second (eqb s (set .n)) (not-second (eqb e (set .k * set .n)) (not-first _ (ne-eqb seedA seedBytes h)))
+
+  pub seedY-unlike : (seedY ≡ seedBytes → ⊥) → Lengths set s e seedA seedY public secret ≡ false
+  seedY-unlike h =
+      not-second (eqb s (set .n)) (not-second (eqb e (set .k * set .n)) (not-second (eqb seedA seedBytes) (not-first _ (ne-eqb seedY seedBytes h))))
+
+  pub public-unlike : (public ≡ publicBytes set → ⊥) → Lengths set s e seedA seedY public secret ≡ false
+  public-unlike h =
+      not-second (eqb s (set .n))
+      (not-second (eqb e (set .k * set .n)) (not-second (eqb seedA seedBytes) (not-second (eqb seedY seedBytes) (not-first _ (ne-eqb public (publicBytes set) h)))))
+
+module _ (set : Numbers) (s e seedA seedY : List ℕ) (public secret : ℕ) where
+  pub key-length : Lengths set (length s) (length e) (length seedA) (length seedY) public secret ≡ false
+      → answer (makeKeyTests set s e seedA seedY public secret) ≡ 1
+  unfolding makeKeyTests
+  key-length f = answer-fail 1 _ f
+
+  module _ (lengths : Lengths set (length s) (length e) (length seedA) (length seedY) public secret ≡ true) where
+    pub key-secret : (inByteRange s && inByteRange e) ≡ false → answer (makeKeyTests set s e seedA seedY public secret) ≡ 5
+    unfolding makeKeyTests
+    key-secret f = answer-pass 1 _ lengths ∙ answer-fail 5 _ f
+
+    module _ (inside : (inByteRange s && inByteRange e) ≡ true) where
+      pub key-sumS : sumPasses (set .h) (set .s) s ≡ false → answer (makeKeyTests set s e seedA seedY public secret) ≡ 6
+      unfolding makeKeyTests
+      key-sumS f = answer-pass 1 _ lengths ∙ answer-pass 5 _ inside ∙ answer-fail 6 _ f
+
+      module _ (passes-s : sumPasses (set .h) (set .s) s ≡ true) where
+        pub key-sumE : eachEPasses set e ≡ false → answer (makeKeyTests set s e seedA seedY public secret) ≡ 7
+        unfolding makeKeyTests
+        key-sumE f = answer-pass 1 _ lengths ∙ answer-pass 5 _ inside ∙ answer-pass 6 _ passes-s ∙ answer-fail 7 _ f
+
+        pub key-done : eachEPasses set e ≡ true → answer (makeKeyTests set s e seedA seedY public secret) ≡ 0
+        unfolding makeKeyTests
+        key-done f =
+            answer-pass 1 _ lengths ∙ answer-pass 5 _ inside ∙ answer-pass 6 _ passes-s ∙ answer-pass 7 _ f ∙ answer-none
+
+    -- what checkE asks
+    pub e-asks : {slots : List ℕ} (slots₁ : List ℕ) → ForTests set slots → length slots₁ ≡ length slots → ForE set e slots₁
+    e-asks slots₁ asked kept =
+        record {
+          good = asked .good;
+          e-long = eqb-true (length e) (set .k * set .n) (both-first _ _ (both-second (eqb (length s) (set .n)) _ lengths));
+          slots-long = kept ∙ asked .slots-long;
+        }
+
+-- ---- the work's conditions, once no test failed
+
+module _ (set : Numbers) (s e seedA seedY public secret : List ℕ) where
+  pub both-asks : {sr a t slots : List ℕ} → Scratch set sr a t slots → answer (makeKeyTests set s e seedA seedY (length public) (length secret)) ≡ 0
+      → ForBoth set s e seedA seedY public secret sr a t
+  unfolding makeKeyTests
+  both-asks scratch passed =
+      record {
+        for-public =
+            record {
+              writes = scratch .writes;
+              s-long = eqb-true (length s) (set .n) (both-first _ _ lengths);
+              e-long = eqb-true (length e) (set .k * set .n) (both-first _ _ second);
+              seedA-long = eqb-true (length seedA) seedBytes (both-first _ _ third);
+              public-long = eqb-true (length public) (publicBytes set) (both-first _ _ fifth);
+              places = scratch .places;
+            };
+        seedY-long = eqb-true (length seedY) seedBytes (both-first _ _ fourth);
+        secret-long = eqb-true (length secret) (secretBytes set) (both-second (eqb (length public) (publicBytes set)) _ fifth);
+      }
+    where
+      lengths : Lengths set (length s) (length e) (length seedA) (length seedY) (length public) (length secret) ≡ true
+      lengths = answer-first _ 0 _ passed
+
+      second : (eqb (length e) (set .k * set .n) && (eqb (length seedA) seedBytes && (eqb (length seedY) seedBytes && (eqb (length public) (publicBytes set) && eqb (length secret) (secretBytes set))))) ≡ true
+      second = both-second (eqb (length s) (set .n)) _ lengths
+
+      third : (eqb (length seedA) seedBytes && (eqb (length seedY) seedBytes && (eqb (length public) (publicBytes set) && eqb (length secret) (secretBytes set)))) ≡ true
+      third = both-second (eqb (length e) (set .k * set .n)) _ second
+
+      fourth : (eqb (length seedY) seedBytes && (eqb (length public) (publicBytes set) && eqb (length secret) (secretBytes set))) ≡ true
+      fourth = both-second (eqb (length seedA) seedBytes) _ third
+
+      fifth : (eqb (length public) (publicBytes set) && eqb (length secret) (secretBytes set)) ≡ true
+      fifth = both-second (eqb (length seedY) seedBytes) _ fourth
+
+-- ---- the outputs
+
+not-done : {tag : ℕ} → OneOf (1 ∷ 2 ∷ 3 ∷ 4 ∷ []) tag → tag ≡ 0 → ⊥
+not-done h e =
+    ⊎-elim (λ l. omega arith) (λ h₂. ⊎-elim (λ l. omega arith) (λ h₃. ⊎-elim (λ l. omega arith) (λ l. omega arith) h₃) h₂) h
+
+-- an answer that is one of the refusals leaves an output as it was
+pub kept : {A : Type 0} (r : KeyAnswer) {number : ℕ} (new old : A) → OneOf (1 ∷ 2 ∷ 3 ∷ 4 ∷ []) (tagOf the-type r) → keyAnswerNumber r ≡ number
+    → old ≡ after number new old
+kept Done new old h e = absurd (not-done h refl)
+kept Length new old h e = sym (after-refused 0 new old (sym e))
+kept Secret new old h e = sym (after-refused 4 new old (sym e))
+kept SumS new old h e = sym (after-refused 5 new old (sym e))
+kept SumE new old h e = sym (after-refused 6 new old (sym e))
+
+pub done-number : {r : KeyAnswer} {number : ℕ} → r ≡ Done → keyAnswerNumber r ≡ number → number ≡ 0
+done-number e f = sym f ∙ ap keyAnswerNumber e
+
+pub written : {A : Type 0} {number : ℕ} {out new : A} (old : A) → number ≡ 0 → out ≡ new → out ≡ after number new old
+written {new = new} old e f = f ∙ sym (after-done new old e)

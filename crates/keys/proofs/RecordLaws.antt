@@ -1,0 +1,113 @@
+-- The two records of a key as they are written: what each piece asks, and that together they are `publicOf` and `secretOf`.
+-- Assumes nothing.
+use mathlib.Core.Path.{_≡_, refl, sym, ap, ap₂, _∙_}
+use mathlib.Core.List.{List, _++_, append-assoc}
+use Prim.Native.Nat.{ℕ, _+_, _*_, _-_, _≤_, _<_}
+use native.Mathlib.Omega.{arith}
+use lib.ListN.{length, take, drop, length-append}
+use Rattle.whole.specs.Table.{joined-ext, joined-length, joined-part}
+use Rattle.whole.specs.Written.{Written, written-more, written-length, written-front, written-all}
+use Rattle.packing.specs.Digits.{packed}
+use Rattle.ring.specs.Asks.{Bytes}
+use Rattle.ring.specs.Lists.{signedBytes, residues, length-residues, residues-below}
+use Rattle.sets.specs.declared.Numbers.{Numbers}
+use Rattle.sets.specs.Good.{Good}
+use Rattle.sampling.specs.Streams.{allA, aOf, keyDigest}
+use Rattle.sampling.specs.DrawnAsks.{Digest}
+use Rattle.records.specs.Layout.{mark, stretch, polynomial, seedBytes, tBytes, publicBytes}
+use Rattle.records.specs.Public.{packedT}
+use Rattle.records.specs.PublicLaws.{packedT-length, public-packed}
+use Rattle.records.specs.Pieces.{Marks, CopiesAt}
+use Rattle.records.specs.Secret.{eOf, secretRecord}
+use Rattle.records.specs.SecretPlaces.{PutsSecret}
+use Rattle.keys.specs.Asks.{ForPut, ForPublic, ForSecret, ForBoth}
+use Rattle.keys.specs.Key.{keyT, allKeyT, publicOf, secretOf}
+use Rattle.keys.specs.Steps.{tFrom, packedUpto}
+use Rattle.keys.proofs.StepLaws.{tFrom-keyT}
+
+-- ---- t_1..t_k
+
+keyT-length : (set : Numbers) (s e seedA : List ℕ) (i : ℕ) → length (keyT set s e seedA i) ≡ set .n
+unfolding keyT
+keyT-length set s e seedA i = length-residues (set .q) (set .n) _
+
+allKeyT-length : (set : Numbers) (s e seedA : List ℕ) → length (allKeyT set s e seedA) ≡ set .k * set .n
+unfolding allKeyT
+allKeyT-length set s e seedA = joined-length (set .k) (set .n) (keyT set s e seedA) (λ i l. keyT-length set s e seedA i)
+
+-- s modulo q
+abbrev pub residuesOf : Numbers → List ℕ → List ℕ
+residuesOf set s = residues (set .q) (set .n) (signedBytes s)
+
+-- what is written one t_i after another is the packed t_1..t_k of the key
+pub packed-key : (set : Numbers) → Good set → (s e seedA : List ℕ)
+    → packedUpto set (allA set seedA) (residuesOf set s) e (set .k) ≡ packedT set (allKeyT set s e seedA)
+unfolding packedUpto packedT allKeyT aOf
+packed-key set good s e seedA =
+    joined-ext (set .k) _ _
+    (λ i l. ap (packed (set .«t_bits»))
+    (tFrom-keyT set good s e seedA i ∙ sym (joined-part (set .k) (set .n) i (keyT set s e seedA) (λ j r. keyT-length set s e seedA j) l)))
+
+-- ---- the public record
+
+module _ {set : Numbers} {s e seedA old sr a t : List ℕ} (asked : ForPublic set s e seedA old sr a t) where
+  pub s-asks : Bytes (set .q) s sr
+  s-asks =
+      record {
+        small = asked .writes .good .q-small;
+        above = asked .writes .good .q-large;
+        long = asked .s-long ∙ sym (asked .places .s-long);
+      }
+
+  module _ {sr₁ marks : List ℕ} (s-is : sr₁ ≡ residues (set .q) (length sr) (signedBytes s)) (marks-are : marks ≡ mark set 1 ++ drop 2 old) where
+    residues-are : sr₁ ≡ residuesOf set s
+    residues-are = s-is ∙ ap (λ (n : ℕ). residues (set .q) n (signedBytes s)) (asked .places .s-long)
+
+    marked : Written (mark set 1) old marks
+    marked = written-front 2 refl (omega (arith, asked .public-long)) marks-are
+
+    pub put-asks : ForPut set sr₁ e a t marks
+    put-asks =
+        record {
+          good = asked .writes .good;
+          s-is =
+              record {
+                long = ap length residues-are ∙ length-residues (set .q) (set .n) _;
+                below = rw residues-are (residues-below (set .q) (set .n) _ (omega (arith, asked .writes .good .q-large)));
+              };
+          e-long = asked .e-long;
+          a-long = asked .places .a-long;
+          t-long = asked .places .t-long;
+          public-long = written-length marked ∙ asked .public-long;
+        }
+
+    module _ {packs : List ℕ} (packs-are : packs ≡ take 2 marks ++ (packedUpto set (allA set seedA) sr₁ e (set .k) ++ drop (2 + set .k * tBytes set) marks)) where
+      all-packed : List ℕ
+      all-packed = packedT set (allKeyT set s e seedA)
+
+      packed-long : length (packedT set (allKeyT set s e seedA)) ≡ set .k * tBytes set
+      packed-long = packedT-length set (allKeyT set s e seedA) (allKeyT-length set s e seedA)
+
+      packed-are : packs ≡ take 2 marks ++ (packedT set (allKeyT set s e seedA) ++ drop (2 + set .k * tBytes set) marks)
+      packed-are =
+          packs-are
+          ∙ ap (λ (l : List ℕ). take 2 marks ++ (l ++ drop (2 + set .k * tBytes set) marks))
+          (ap (λ (x : List ℕ). packedUpto set (allA set seedA) x e (set .k)) residues-are ∙ packed-key set (asked .writes .good) s e seedA)
+
+      second : Written (mark set 1 ++ packedT set (allKeyT set s e seedA)) old packs
+      second = written-more marked 2 (set .k * tBytes set) (packedT set (allKeyT set s e seedA)) refl packed-long (omega (arith, asked .public-long)) packed-are
+
+      module _ {at : ℕ} (at-is : at ≡ 2 + set .k * tBytes set) where
+        pub seed-asks : CopiesAt seedA packs at
+        seed-asks = record { room = omega (arith, at-is, asked .seedA-long, asked .public-long, written-length second) }
+
+        pub public-is : {new : List ℕ} → new ≡ take at packs ++ (seedA ++ drop (at + length seedA) packs) → new ≡ publicOf set s e seedA
+        unfolding publicOf Rattle.records.specs.Public.publicRecord
+        public-is copied =
+            written-all
+            (written-more second at (length seedA) seedA (at-is ∙ sym long) refl (omega (arith, asked .public-long, asked .seedA-long)) copied)
+            (length-append (mark set 1 ++ packedT set (allKeyT set s e seedA)) seedA ∙ omega (arith, long, asked .public-long, asked .seedA-long))
+            ∙ append-assoc (mark set 1) (packedT set (allKeyT set s e seedA)) seedA
+          where
+            long : length (mark set 1 ++ packedT set (allKeyT set s e seedA)) ≡ 2 + set .k * tBytes set
+            long = length-append (mark set 1) (packedT set (allKeyT set s e seedA)) ∙ ap (λ (n : ℕ). 2 + n) packed-long

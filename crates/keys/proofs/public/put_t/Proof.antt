@@ -1,0 +1,106 @@
+-- `keys::public::put_t` meets its contract. The loop's invariant: t_1..t_i stand packed in their stretches, and the rest of the record is
+-- as it was. Assumes nothing.
+use mathlib.Core.Path.{sym, _∙_}
+use Prim.Native.Nat.{_-_}
+use native.Mathlib.Omega.{arith}
+use Rattle.whole.specs.Written.{written-length}
+use Rattle.keys.proofs.PutLaws.{Turn, turn-none, part-inside, next-asks, pack-asks, turn-more, turn-all}
+use Rattle.keys.proofs.public.put_t.Statement.{statement}
+use Rattle.keys.proofs.public.put_t.Tie as tie
+
+abbrev Inv-loop : tie.InvT-loop
+Inv-loop set seed-a sr e a₀ t₀ public₀ n k draw₀ i₀ a t public draw i = Turn set seed-a sr e public₀ a t public draw i
+
+abbrev μ-loop : tie.MeasureT-loop
+μ-loop set seed-a sr e a₀ t₀ public₀ n k draw₀ i₀ a t public draw i = k - i
+
+start-a-requires : tie.Need-start-a-requires Inv-loop μ-loop
+start-a-requires c κs =
+    c .before .before .before .before .before .before .pre .good
+
+loop-holds : tie.Need-loop-holds Inv-loop μ-loop
+loop-holds c =
+    turn-none (c .before .before .before .before .before .before .before .pre) (c .start-a .ensures)
+
+mul-start : tie.Need-mul-start Inv-loop μ-loop
+mul-start c =
+    omega (arith, part-inside (c .before .before .before .before .before .before .before .before .before .pre) (c .before .loop .i) (c .loop-test .taken))
+
+add-next-t : tie.Need-add-next-t Inv-loop μ-loop
+add-next-t c =
+    omega (arith, part-inside (c .before .before .before .before .before .before .before .before .before .pre) (c .before .loop .i) (c .loop-test .taken))
+
+sub-next-t : tie.Need-sub-next-t Inv-loop μ-loop
+sub-next-t c =
+    omega arith
+
+part-next-t-start : tie.Need-part-next-t-start Inv-loop μ-loop
+part-next-t-start c =
+    omega arith
+
+part-next-t-end : tie.Need-part-next-t-end Inv-loop μ-loop
+part-next-t-end c =
+    part-inside (c .before .before .before .before .before .before .before .before .before .pre) (c .before .loop .i) (c .loop-test .taken)
+
+next-t-requires : tie.Need-next-t-requires Inv-loop μ-loop
+next-t-requires c κs =
+    let turn = c .before .before .before in
+    next-asks (turn .before .before .before .before .before .before .before .before .before .pre) (turn .before .loop .inv) (turn .loop-test .taken)
+
+pack-t-requires : tie.Need-pack-t-requires Inv-loop μ-loop
+pack-t-requires c κs =
+    let turn = c .before .before .before .before .before .before .before .before .before .before in
+    pack-asks (turn .before .before .before .before .before .before .before .before .before .pre) (turn .before .loop .inv) (turn .loop-test .taken) (c .before .before .before .before .before .before .next-t .ensures)
+
+add-i : tie.Need-add-i Inv-loop μ-loop
+add-i c =
+    let turn = c .before .before .before .before .before .before .before .before .before .before .before .before .before in
+    omega (arith, turn .loop-test .taken, turn .before .before .before .before .before .before .before .before .before .pre .good .k-few)
+
+loop-less : tie.Need-loop-less Inv-loop μ-loop
+loop-less c =
+    omega (arith, c .before .before .before .before .before .before .before .before .before .before .before .before .before .loop-test .taken)
+
+loop-again : tie.Need-loop-again Inv-loop μ-loop
+loop-again c =
+    let turn = c .before .before .before .before .before .before .before .before .before .before .before .before .before in
+    turn-more (turn .before .before .before .before .before .before .before .before .before .pre) (turn .before .loop .inv) (turn .loop-test .taken) (c .before .before .before .before .before .before .before .before .before .next-t .ensures) (c .before .before .before .before .before .before .before .before .before .next-t .kept .1 .1 .1 .1 .0) (c .before .before .pack-t .ensures)
+
+same-length : tie.Need-same-length Inv-loop μ-loop
+same-length c =
+    c .before .loop .inv .a-long ∙ sym (c .before .before .before .before .before .before .before .before .before .pre .a-long)
+
+same-length-2 : tie.Need-same-length-2 Inv-loop μ-loop
+same-length-2 c =
+    c .before .loop .inv .t-long ∙ sym (c .before .before .before .before .before .before .before .before .before .pre .t-long)
+
+same-length-3 : tie.Need-same-length-3 Inv-loop μ-loop
+same-length-3 c =
+    written-length (c .before .loop .inv .done)
+
+returns : tie.Need-returns Inv-loop μ-loop
+returns c =
+    turn-all (c .before .before .before .before .before .before .before .before .before .pre) (c .before .loop .inv) (c .loop-test .left)
+
+pub put-t-spec : {M : Type 1} → statement M
+put-t-spec =
+    tie.close
+    (tie.spec
+    Inv-loop
+    μ-loop
+    start-a-requires
+    loop-holds
+    mul-start
+    add-next-t
+    sub-next-t
+    part-next-t-start
+    part-next-t-end
+    next-t-requires
+    pack-t-requires
+    add-i
+    loop-less
+    loop-again
+    same-length
+    same-length-2
+    same-length-3
+    returns)
