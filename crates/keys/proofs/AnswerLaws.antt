@@ -22,6 +22,7 @@ use Rattle.sets.specs.declared.Numbers.{Numbers}
 use Rattle.sets.specs.Good.{Good}
 use Rattle.sets.specs.SetI.{setI, setI-good}
 use Rattle.records.specs.Layout.{seedBytes, publicBytes, secretBytes}
+use Rattle.records.specs.Pieces.{setI-writes}
 use Rattle.records.specs.Secret.{inByteRange}
 use Rattle.keys.specs.declared.KeyAnswer.{KeyAnswer}
 use Rattle.keys.specs.declared.KeyAnswer.the-variants.{Done, Length, Secret, SumS, SumE}
@@ -151,3 +152,24 @@ done-number e f = sym f ∙ ap keyAnswerNumber e
 
 pub written : {A : Type 0} {number : ℕ} {out new : A} (old : A) → number ≡ 0 → out ≡ new → out ≡ after number new old
 written {new = new} old e f = f ∙ sym (after-done new old e)
+
+-- ---- set I
+
+module _ {set : Numbers} (i : set ≡ setI) where
+  pub scratch-i : {sr a t slots : List ℕ} → length sr ≡ 1024 → length a ≡ 1024 → length t ≡ 1024 → length slots ≡ 25 → Scratch set sr a t slots
+  scratch-i sr a t slots =
+      rw i (record { writes = setI-writes; places = record { s-long = sr; a-long = a; t-long = t }; slots-long = slots })
+
+  pub made-i : {n : ℕ} (s e seedA seedY public secret : List ℕ) {public₁ secret₁ : List ℕ}
+      → (n ≡ answer (makeKeyTests set s e seedA seedY (length public) (length secret)))
+      × ((public₁ ≡ after (answer (makeKeyTests set s e seedA seedY (length public) (length secret))) (publicOf set s e seedA) public)
+      × (secret₁ ≡ after (answer (makeKeyTests set s e seedA seedY (length public) (length secret))) (secretOf set s e seedA seedY) secret))
+      → (n ≡ answer (makeKeyTests setI s e seedA seedY (length public) (length secret)))
+      × ((public₁ ≡ after (answer (makeKeyTests setI s e seedA seedY (length public) (length secret))) (publicOf setI s e seedA) public)
+      × (secret₁ ≡ after (answer (makeKeyTests setI s e seedA seedY (length public) (length secret))) (secretOf setI s e seedA seedY) secret))
+  made-i {n} s e seedA seedY public secret {public₁} {secret₁} made =
+      subst
+      (λ (x : Numbers). (n ≡ answer (makeKeyTests x s e seedA seedY (length public) (length secret)))
+      × ((public₁ ≡ after (answer (makeKeyTests x s e seedA seedY (length public) (length secret))) (publicOf x s e seedA) public)
+      × (secret₁ ≡ after (answer (makeKeyTests x s e seedA seedY (length public) (length secret))) (secretOf x s e seedA seedY) secret)))
+      i made

@@ -14,8 +14,8 @@ use Rattle.sets.specs.declared.Numbers.{Numbers}
 use Rattle.sets.specs.Good.{Good}
 use Rattle.sampling.specs.Streams.{allA, aOf, keyDigest}
 use Rattle.sampling.specs.DrawnAsks.{Digest}
-use Rattle.records.specs.Layout.{mark, stretch, polynomial, seedBytes, tBytes, publicBytes}
-use Rattle.records.specs.Public.{packedT}
+use Rattle.records.specs.Layout.{mark, stretch, polynomial, digestBytes, tBytes}
+use Rattle.records.specs.Public.{packedT, publicRecord}
 use Rattle.records.specs.PublicLaws.{packedT-length, public-packed}
 use Rattle.records.specs.Pieces.{Marks, CopiesAt}
 use Rattle.records.specs.Secret.{eOf, secretRecord}
@@ -59,6 +59,9 @@ module _ {set : Numbers} {s e seedA old sr a t : List ℕ} (asked : ForPublic se
         long = asked .s-long ∙ sym (asked .places .s-long);
       }
 
+  pub mark-asks : Marks set 1 old
+  mark-asks = record { fits = omega (arith, asked .writes .digit-fits); room = omega (arith, asked .public-long) }
+
   module _ {sr₁ marks : List ℕ} (s-is : sr₁ ≡ residues (set .q) (length sr) (signedBytes s)) (marks-are : marks ≡ mark set 1 ++ drop 2 old) where
     residues-are : sr₁ ≡ residuesOf set s
     residues-are = s-is ∙ ap (λ (n : ℕ). residues (set .q) n (signedBytes s)) (asked .places .s-long)
@@ -82,9 +85,6 @@ module _ {set : Numbers} {s e seedA old sr a t : List ℕ} (asked : ForPublic se
         }
 
     module _ {packs : List ℕ} (packs-are : packs ≡ take 2 marks ++ (packedUpto set (allA set seedA) sr₁ e (set .k) ++ drop (2 + set .k * tBytes set) marks)) where
-      all-packed : List ℕ
-      all-packed = packedT set (allKeyT set s e seedA)
-
       packed-long : length (packedT set (allKeyT set s e seedA)) ≡ set .k * tBytes set
       packed-long = packedT-length set (allKeyT set s e seedA) (allKeyT-length set s e seedA)
 
@@ -102,7 +102,7 @@ module _ {set : Numbers} {s e seedA old sr a t : List ℕ} (asked : ForPublic se
         seed-asks = record { room = omega (arith, at-is, asked .seedA-long, asked .public-long, written-length second) }
 
         pub public-is : {new : List ℕ} → new ≡ take at packs ++ (seedA ++ drop (at + length seedA) packs) → new ≡ publicOf set s e seedA
-        unfolding publicOf Rattle.records.specs.Public.publicRecord
+        unfolding publicOf publicRecord
         public-is copied =
             written-all
             (written-more second at (length seedA) seedA (at-is ∙ sym long) refl (omega (arith, asked .public-long, asked .seedA-long)) copied)
@@ -111,3 +111,52 @@ module _ {set : Numbers} {s e seedA old sr a t : List ℕ} (asked : ForPublic se
           where
             long : length (mark set 1 ++ packedT set (allKeyT set s e seedA)) ≡ 2 + set .k * tBytes set
             long = length-append (mark set 1) (packedT set (allKeyT set s e seedA)) ∙ ap (λ (n : ℕ). 2 + n) packed-long
+
+-- ---- the secret record
+
+module _ {set : Numbers} {s e seedA seedY public old : List ℕ} (asked : ForSecret set s e seedA seedY public old) where
+  pub packed-inside : {end : ℕ} → end ≡ 2 + set .k * tBytes set → end ≤ length public
+  packed-inside e = omega (arith, e, asked .public-long)
+
+  pub g-asks : (g : List ℕ) → length g ≡ digestBytes → PutsSecret set s e seedA seedY g old
+  g-asks g long =
+      record {
+        writes = asked .writes;
+        lengths = record { s-long = asked .s-long; e-long = asked .e-long; seedA-long = asked .seedA-long; seedY-long = asked .seedY-long; g-long = long };
+        long = asked .secret-long;
+      }
+
+-- g of the packed t_1..t_k where they stand
+pub g-placed : (set : Numbers) (s e seedA seedY public : List ℕ) {g new : List ℕ} {end : ℕ} → end ≡ 2 + set .k * tBytes set
+    → g ≡ keyDigest set (take (end - 2) (drop 2 public)) → new ≡ secretRecord set s e seedA seedY g
+    → new ≡ secretRecord set s e seedA seedY (keyDigest set (stretch 2 (set .k * tBytes set) public))
+g-placed set s e seedA seedY public {end = end} end-is g-is written =
+    written
+    ∙ ap (secretRecord set s e seedA seedY) (g-is ∙ ap (λ (m : ℕ). keyDigest set (take m (drop 2 public))) size)
+  where
+    size : end - 2 ≡ set .k * tBytes set
+    size = omega arith
+
+-- ---- both records
+
+pub secret-asks : {set : Numbers} {s e seedA seedY public secret sr a t : List ℕ} (public₁ : List ℕ) → ForBoth set s e seedA seedY public secret sr a t
+    → length public₁ ≡ length public → ForSecret set s e seedA seedY public₁ secret
+secret-asks public₁ asked kept =
+    record {
+      writes = asked .for-public .writes;
+      s-long = asked .for-public .s-long;
+      e-long = asked .for-public .e-long;
+      seedA-long = asked .for-public .seedA-long;
+      seedY-long = asked .seedY-long;
+      public-long = kept ∙ asked .for-public .public-long;
+      secret-long = asked .secret-long;
+    }
+
+-- g of the public record that was written is the key's
+pub secret-is : (set : Numbers) (s e seedA seedY : List ℕ) {public new : List ℕ} → public ≡ publicOf set s e seedA
+    → new ≡ secretRecord set s e seedA seedY (keyDigest set (stretch 2 (set .k * tBytes set) public)) → new ≡ secretOf set s e seedA seedY
+unfolding publicOf secretOf
+secret-is set s e seedA seedY public-is written =
+    written
+    ∙ ap (λ (l : List ℕ). secretRecord set s e seedA seedY (keyDigest set l))
+    (ap (stretch 2 (set .k * tBytes set)) public-is ∙ public-packed set (allKeyT set s e seedA) seedA (allKeyT-length set s e seedA))
