@@ -1,4 +1,5 @@
 pub mod AnswerLaws
+pub mod Determined
 pub mod PutLaws
 pub mod RecordLaws
 pub mod StepLaws
