@@ -1,26 +1,27 @@
 -- The tests of key making in a row, what each of them makes of the answer, and the outputs after it.
 --     second-decides                                        two tests of which the first passes
 --     key-length, key-secret, key-sumS, key-sumE, key-done  the tests
---     lengths-of                                            what the first test says
---     kept, written                                         an output after a refusal, and after the work
+--     e-asks                                                what checkE asks once the lengths are right
+--     both-asks                                             what writing both records asks
+--     kept, done-number                                     an output after a refusal, and the number of what is done
+--     scratch-i, made-i                                     set I
 -- Assumes nothing.
 use mathlib.Core.Path.{_≡_, refl, sym, ap, subst, _∙_}
 use mathlib.Core.Bool.{Bool, true, false, _&&_}
 use mathlib.Core.Logic.{⊎-elim}
 use mathlib.Core.List.{List, [], _∷_}
-use Prim.Native.Nat.{ℕ, suc, _*_}
+use Prim.Native.Nat.{ℕ, _*_}
 use native.Mathlib.Omega.{arith}
-use lib.Dec.{eqb, lit<}
+use lib.Dec.{eqb}
 use lib.ListN.{length}
 use types.Run.{OneOf}
 use denote.Enum.Declared.{tagOf}
 use borrow.Author.Tests.{eqb-true, ne-eqb}
 use Rattle.whole.specs.Refusal.{answer, after}
-use Rattle.whole.specs.RefusalLaws.{not-first, not-second, both-first, both-second, answer-pass, answer-fail, answer-none, answer-first, after-done, after-refused}
+use Rattle.whole.specs.RefusalLaws.{not-first, not-second, both-first, both-second, answer-pass, answer-fail, answer-none, answer-first, output-kept}
 use Rattle.ring.specs.Largest.{sumPasses}
 use Rattle.sets.specs.declared.Numbers.{Numbers}
-use Rattle.sets.specs.Good.{Good}
-use Rattle.sets.specs.SetI.{setI, setI-good}
+use Rattle.sets.specs.SetI.{setI}
 use Rattle.records.specs.Layout.{seedBytes, publicBytes, secretBytes}
 use Rattle.records.specs.Pieces.{setI-writes}
 use Rattle.records.specs.Secret.{inByteRange}
@@ -142,16 +143,13 @@ not-done h e =
 pub kept : {A : Type 0} (r : KeyAnswer) {number : ℕ} (new old : A) → OneOf (1 ∷ 2 ∷ 3 ∷ 4 ∷ []) (tagOf the-type r) → keyAnswerNumber r ≡ number
     → old ≡ after number new old
 kept Done new old h e = absurd (not-done h refl)
-kept Length new old h e = sym (after-refused 0 new old (sym e))
-kept Secret new old h e = sym (after-refused 4 new old (sym e))
-kept SumS new old h e = sym (after-refused 5 new old (sym e))
-kept SumE new old h e = sym (after-refused 6 new old (sym e))
+kept Length new old h e = output-kept 0 new old e
+kept Secret new old h e = output-kept 4 new old e
+kept SumS new old h e = output-kept 5 new old e
+kept SumE new old h e = output-kept 6 new old e
 
 pub done-number : {r : KeyAnswer} {number : ℕ} → r ≡ Done → keyAnswerNumber r ≡ number → number ≡ 0
 done-number e f = sym f ∙ ap keyAnswerNumber e
-
-pub written : {A : Type 0} {number : ℕ} {out new : A} (old : A) → number ≡ 0 → out ≡ new → out ≡ after number new old
-written {new = new} old e f = f ∙ sym (after-done new old e)
 
 -- ---- set I
 

@@ -1,7 +1,7 @@
--- The records written: t_1..t_k one after another, each packed into its own stretch, then the whole public record.
+-- t_1..t_k one after another, each packed into its own stretch of the public record.
 -- Assumes nothing.
-use mathlib.Core.Path.{_≡_, refl, sym, ap, ap₂, subst, _∙_}
-use mathlib.Core.List.{List, [], _++_, append-nil, append-assoc}
+use mathlib.Core.Path.{_≡_, sym, ap, ap₂, _∙_}
+use mathlib.Core.List.{List, _++_, append-nil, append-assoc}
 use Prim.Native.Nat.{ℕ, _+_, _*_, _-_, _≤_, _<_, zero-le}
 use native.Mathlib.Nat.{le-antisymm, mul-zero, mul-comm}
 use native.Mathlib.Numerals.{add-one}
@@ -9,31 +9,26 @@ use native.Mathlib.Omega.{arith}
 use lib.ListN.{length, take, drop, length-append}
 use lib.Seq.{drop-drop, length-take-le}
 use Rattle.whole.specs.Below.{Below, below-more, below-take}
-use Rattle.whole.specs.Table.{joined, joined-ext, joined-length, joined-part}
-use Rattle.whole.specs.Written.{Written, written-kept, written-more, written-length, written-front, written-all}
+use Rattle.whole.specs.Table.{joined, joined-length}
+use Rattle.whole.specs.Written.{Written, written-kept, written-more, written-length}
 use Rattle.packing.specs.Digits.{packed}
 use Rattle.shake.specs.Sponge.{squeezed}
-use Rattle.ring.specs.Asks.{Bytes}
-use Rattle.ring.specs.Lists.{residues, signedBytes, length-residues, residues-below}
+use Rattle.ring.specs.Lists.{length-residues, residues-below}
 use Rattle.sets.specs.declared.Numbers.{Numbers}
 use Rattle.sets.specs.Good.{Good}
 use Rattle.sampling.specs.declared.drawn.DrawA.{DrawA}
 use Rattle.sampling.specs.Candidates.{candidates}
 use Rattle.sampling.specs.CandidatesLaws.{candidates-below}
 use Rattle.sampling.specs.ValuesLaws.{values-below}
-use Rattle.sampling.specs.Streams.{allA, aOf, keyDigest}
+use Rattle.sampling.specs.Streams.{allA}
 use Rattle.sampling.specs.DrawA.{valuesLeft, ValidA, StartedA, AfterA}
-use Rattle.records.specs.Layout.{mark, polynomial, seedBytes, tBytes, publicBytes}
-use Rattle.records.specs.Public.{packedT, publicRecord}
-use Rattle.records.specs.PublicLaws.{row-fits, packed-t-length, packedT-length, polynomial-length, public-packed}
+use Rattle.records.specs.Layout.{polynomial, tBytes}
+use Rattle.records.specs.PublicLaws.{row-fits, packed-t-length, polynomial-length}
 use Rattle.records.specs.PublicPlaces.{PacksT}
-use Rattle.records.specs.Pieces.{Marks, CopiesAt}
 use Rattle.records.specs.Secret.{eOf}
 use Rattle.records.specs.SizeLaws.{stretch-fits}
-use Rattle.keys.specs.Asks.{Residues, ForT, ForNext, ForPut, ForPublic, ForBoth}
-use Rattle.keys.specs.Key.{keyT, allKeyT, publicOf, secretOf}
+use Rattle.keys.specs.Asks.{ForT, ForNext, ForPut}
 use Rattle.keys.specs.Steps.{tFrom, OneMore, packedUpto}
-use Rattle.keys.proofs.StepLaws.{tFrom-keyT}
 
 q-some : (set : Numbers) → Good set → 0 < set .q
 q-some set good = omega (arith, good .q-large)

@@ -1,8 +1,8 @@
 -- The two records of a key as they are written: what each piece asks, and that together they are `publicOf` and `secretOf`.
 -- Assumes nothing.
-use mathlib.Core.Path.{_≡_, refl, sym, ap, ap₂, _∙_}
+use mathlib.Core.Path.{_≡_, refl, sym, ap, _∙_}
 use mathlib.Core.List.{List, _++_, append-assoc}
-use Prim.Native.Nat.{ℕ, _+_, _*_, _-_, _≤_, _<_}
+use Prim.Native.Nat.{ℕ, _+_, _*_, _-_, _≤_}
 use native.Mathlib.Omega.{arith}
 use lib.ListN.{length, take, drop, length-append}
 use Rattle.whole.specs.Table.{joined-ext, joined-length, joined-part}
@@ -13,16 +13,15 @@ use Rattle.ring.specs.Lists.{signedBytes, residues, length-residues, residues-b
 use Rattle.sets.specs.declared.Numbers.{Numbers}
 use Rattle.sets.specs.Good.{Good}
 use Rattle.sampling.specs.Streams.{allA, aOf, keyDigest}
-use Rattle.sampling.specs.DrawnAsks.{Digest}
-use Rattle.records.specs.Layout.{mark, stretch, polynomial, digestBytes, tBytes}
+use Rattle.records.specs.Layout.{mark, stretch, digestBytes, tBytes}
 use Rattle.records.specs.Public.{packedT, publicRecord}
 use Rattle.records.specs.PublicLaws.{packedT-length, public-packed}
 use Rattle.records.specs.Pieces.{Marks, CopiesAt}
-use Rattle.records.specs.Secret.{eOf, secretRecord}
+use Rattle.records.specs.Secret.{secretRecord}
 use Rattle.records.specs.SecretPlaces.{PutsSecret}
 use Rattle.keys.specs.Asks.{ForPut, ForPublic, ForSecret, ForBoth}
 use Rattle.keys.specs.Key.{keyT, allKeyT, publicOf, secretOf}
-use Rattle.keys.specs.Steps.{tFrom, packedUpto}
+use Rattle.keys.specs.Steps.{packedUpto}
 use Rattle.keys.proofs.StepLaws.{tFrom-keyT}
 
 -- ---- t_1..t_k

@@ -1,16 +1,16 @@
 -- One step of key making: t_i from what the product and the sum give, and that it is the t_i of the key.
 -- Assumes nothing.
-use mathlib.Core.Path.{_≡_, refl, sym, ap, _∙_}
+use mathlib.Core.Path.{_≡_, sym, ap, _∙_}
 use mathlib.Core.List.{List}
 use Prim.Native.Nat.{ℕ, _<_}
 use native.Mathlib.Omega.{arith}
-use lib.IntN.{pos, _+ℤ_}
+use lib.IntN.{_+ℤ_}
 use lib.ListN.{length}
 use Rattle.whole.specs.Residue.{residue, Same, same-refl, same-sym, same-add, residue-same, residue-eq}
 use Rattle.whole.specs.Table.{table-ext, getD-table}
 use Rattle.ring.specs.Product.{Poly, mul, mul-same}
 use Rattle.ring.specs.Lists.{naturals, signedBytes, residues, length-residues, residues-below}
-use Rattle.ring.specs.Asks.{Factors, Bytes, WithBytes}
+use Rattle.ring.specs.Asks.{Factors, WithBytes}
 use Rattle.sets.specs.declared.Numbers.{Numbers}
 use Rattle.sets.specs.Good.{Good}
 use Rattle.sampling.specs.Streams.{aOf}

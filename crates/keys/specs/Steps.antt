@@ -1,8 +1,8 @@
 -- What a step of key making computes, over what the code holds: s as residues modulo q.
 -- Assumes nothing: these are definitions.
 use mathlib.Core.Path.{_≡_}
-use mathlib.Core.List.{List, _++_}
-use Prim.Native.Nat.{ℕ, _+_, _*_, _-_}
+use mathlib.Core.List.{List}
+use Prim.Native.Nat.{ℕ, _+_, _-_}
 use lib.ListN.{take, drop}
 use Rattle.whole.specs.Table.{joined}
 use lib.IntN.{_+ℤ_}

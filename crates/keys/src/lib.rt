@@ -68,16 +68,7 @@ fn make_key_in(
     ensures public { λ _. ⌜ now (public .exit) ≡ after (answer (makeKeyTests set (now (s .entry)) (now (e .entry)) (now («seed_a» .entry)) (now («seed_y» .entry)) (length (now (public .entry))) (length (now (secret .entry))))) (publicOf set (now (s .entry)) (now (e .entry)) (now («seed_a» .entry))) (now (public .entry)) ⌝ }
     ensures secret { λ _. ⌜ now (secret .exit) ≡ after (answer (makeKeyTests set (now (s .entry)) (now (e .entry)) (now («seed_a» .entry)) (now («seed_y» .entry)) (length (now (public .entry))) (length (now (secret .entry))))) (secretOf set (now (s .entry)) (now (e .entry)) (now («seed_a» .entry)) (now («seed_y» .entry))) (now (secret .entry)) ⌝ }
 {
-    let tested = tests::test_inputs(
-        set,
-        s,
-        e,
-        seed_a,
-        seed_y,
-        public.len(),
-        secret.len(),
-        slots,
-    );
+    let tested = tests::test_inputs(set, s, e, seed_a, seed_y, public.len(), secret.len(), slots);
     let KeyAnswer::Done = tested else {
         return tested;
     };

@@ -32,7 +32,15 @@ fn next_t(set: Numbers, draw: DrawA, sr: &[u32], e: &[u8], a: &mut [u32], t: &mu
 
 // Writes t_1..t_k, each packed into its own stretch of the public record. The mark and what follows stay. a and t take one a_i and
 // one t_i at a time.
-fn put_t(set: Numbers, seed_a: &[u8], sr: &[u32], e: &[u8], a: &mut [u32], t: &mut [u32], public: &mut [u8])
+fn put_t(
+    set: Numbers,
+    seed_a: &[u8],
+    sr: &[u32],
+    e: &[u8],
+    a: &mut [u32],
+    t: &mut [u32],
+    public: &mut [u8],
+)
     requires { ⌜ ForPut set (now sr) (now e) (now a) (now t) (now public) ⌝ }
     ensures { λ _. ⌜ now (public .exit) ≡ take 2 (now (public .entry)) ++ (packedUpto set (allA set (now («seed_a» .entry))) (now (sr .entry)) (now (e .entry)) (set .k) ++ drop (2 + set .k * tBytes set) (now (public .entry))) ⌝ }
 {
@@ -48,7 +56,6 @@ fn put_t(set: Numbers, seed_a: &[u8], sr: &[u32], e: &[u8], a: &mut [u32], t: &m
         i += 1;
     }
 }
-
 
 // Writes the public record of s, e_1..e_k and seed_a. sr takes s modulo q, a and t one a_i and one t_i at a time.
 pub fn put_public(

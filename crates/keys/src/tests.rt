@@ -5,7 +5,6 @@ ghost use mathlib.Core.Path.{_≡_};
 ghost use mathlib.Core.Bool.{_&&_};
 ghost use Prim.Native.Nat.{_*_};
 ghost use lib.Dec.{eqb};
-ghost use lib.ListN.{length};
 ghost use Rattle.whole.specs.Refusal.{answer};
 ghost use Rattle.sets.specs.Good.{Good};
 ghost use Rattle.records.specs.Layout.{seedBytes, publicBytes, secretBytes};
@@ -32,7 +31,15 @@ pub fn each_e_passes(set: Numbers, e: &[u8], slots: &mut [u32]) -> bool
 }
 
 // Whether the inputs and the outputs have their lengths.
-fn lengths(set: Numbers, s: usize, e: usize, seed_a: usize, seed_y: usize, public: usize, secret: usize) -> bool
+fn lengths(
+    set: Numbers,
+    s: usize,
+    e: usize,
+    seed_a: usize,
+    seed_y: usize,
+    public: usize,
+    secret: usize,
+) -> bool
     requires { ⌜ Good set ⌝ }
     ensures { λ r. ⌜ r ≡ (eqb s (set .n) && (eqb e (set .k * set .n) && (eqb «seed_a» seedBytes && (eqb «seed_y» seedBytes && (eqb public (publicBytes set) && eqb secret (secretBytes set)))))) ⌝ }
 {
@@ -68,7 +75,15 @@ pub fn test_inputs(
     requires { ⌜ ForTests set (now slots) ⌝ }
     ensures { λ r. ⌜ keyAnswerNumber r ≡ answer (makeKeyTests set (now (s .entry)) (now (e .entry)) (now («seed_a» .entry)) (now («seed_y» .entry)) public secret) ⌝ }
 {
-    if !lengths(set, s.len(), e.len(), seed_a.len(), seed_y.len(), public, secret) {
+    if !lengths(
+        set,
+        s.len(),
+        e.len(),
+        seed_a.len(),
+        seed_y.len(),
+        public,
+        secret,
+    ) {
         return KeyAnswer::Length;
     }
     if !records::secret::both_in_range(s, e) {

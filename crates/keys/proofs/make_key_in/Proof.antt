@@ -2,7 +2,8 @@
 -- Assumes nothing.
 use mathlib.Core.Path.{sym}
 use borrow.Author.Needs.{needs}
-use Rattle.keys.proofs.AnswerLaws.{both-asks, kept, done-number, written}
+use Rattle.whole.specs.RefusalLaws.{output-new}
+use Rattle.keys.proofs.AnswerLaws.{both-asks, kept, done-number}
 use Rattle.keys.proofs.make_key_in.Statement.{statement}
 use Rattle.keys.proofs.make_key_in.Tie as tie
 
@@ -53,8 +54,8 @@ returns-2 : tie.Need-returns-2
 returns-2 c =
     let both = c .before .before .before .before .before .before .before .before .before .before in
     let told = both .before .before .before .before .before .before in
-    let number = done-number (told .enum-told .given .1) (told .before .before .before .before .test-inputs .ensures) in
-    (sym number, (written _ number (both .put-both .ensures .0), written _ number (both .put-both .ensures .1)))
+    let number = sym (done-number (told .enum-told .given .1) (told .before .before .before .before .test-inputs .ensures)) in
+    (number, (output-new _ number (both .put-both .ensures .0), output-new _ number (both .put-both .ensures .1)))
 
 pub make-key-in-spec : {M : Type 1} → statement M
 make-key-in-spec =

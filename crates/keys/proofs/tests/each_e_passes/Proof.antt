@@ -7,7 +7,8 @@ use Prim.Native.Nat.{_≤_, _-_}
 use native.Mathlib.Omega.{arith}
 use lib.ListN.{length}
 use Rattle.whole.specs.Refusal.{eachBelow}
-use Rattle.keys.proofs.TestLaws.{each-none, each-more, passesE, passes-part, part-inside, few, each-passes, each-refuses}
+use Rattle.whole.specs.RefusalLaws.{eachBelow-none, eachBelow-more}
+use Rattle.keys.proofs.TestLaws.{passesE, passes-part, part-inside, few, each-passes, each-refuses}
 use Rattle.keys.proofs.tests.each_e_passes.Statement.{statement}
 use Rattle.keys.proofs.tests.each_e_passes.Tie as tie
 
@@ -18,7 +19,7 @@ abbrev μ-loop : tie.MeasureT-loop
 μ-loop set e slots₀ n k i₀ slots i = k - i
 
 loop-holds : tie.Need-loop-holds Inv-loop μ-loop
-loop-holds c = (omega arith, (refl, each-none _))
+loop-holds c = (omega arith, (refl, eachBelow-none _))
 
 mul-start : tie.Need-mul-start Inv-loop μ-loop
 mul-start c = omega (arith, part-inside (c .before .before .before .before .pre) (c .before .loop .i) (c .loop-test .taken))
@@ -55,9 +56,14 @@ loop-less c = omega arith
 
 loop-again : tie.Need-loop-again Inv-loop μ-loop
 loop-again c =
-    let at = c .before .before .before .before .before .before .before in
-    (omega arith, (c .before .before .before .sum-passes .kept .1 .0 ∙ at .loop .inv .1 .0, each-more _ (at .loop .i) (at .loop .inv .1 .1)
-    (sym (passes-part (at .before .before .before .args .set) (at .before .before .before .args .e .now) (at .loop .i) _ (at .loop .inv .1 .0 ∙ at .before .before .before .pre .slots-long)) ∙ sym (c .before .before .before .sum-passes .ensures .0) ∙ not-false _ (c .if1 .left))))
+    let at = c .before .before .before .before .before .before .before in (
+      omega arith,
+      (
+        c .before .before .before .sum-passes .kept .1 .0 ∙ at .loop .inv .1 .0,
+        eachBelow-more _ (at .loop .inv .1 .1)
+            (sym (passes-part (at .before .before .before .args .set) (at .before .before .before .args .e .now) (at .loop .i) _ (at .loop .inv .1 .0 ∙ at .before .before .before .pre .slots-long)) ∙ sym (c .before .before .before .sum-passes .ensures .0) ∙ not-false _ (c .if1 .left)) refl,
+      ),
+    )
 
 same-length-2 : tie.Need-same-length-2 Inv-loop μ-loop
 same-length-2 c = c .before .loop .inv .1 .0
