@@ -9,6 +9,7 @@ use native.Mathlib.Omega.{arith}
 use lib.ListN.{length, take, drop, length-append}
 use lib.Seq.{drop-drop, length-take-le}
 use Rattle.whole.specs.Below.{Below, below-more, below-take}
+use Rattle.whole.specs.Parts.{part-length}
 use Rattle.whole.specs.Table.{joined, joined-length}
 use Rattle.whole.specs.Written.{Written, written-kept, written-more, written-length}
 use Rattle.packing.specs.Digits.{packed}
@@ -86,8 +87,8 @@ unfolding packedUpto
 upto-length set a sr e i =
     joined-length i (tBytes set) _ (λ j l. packed-t-length set _ (tFrom-length set (polynomial (set .n) j a) sr (eOf set e j))) ∙ mul-comm i (tBytes set)
 
-part-size : (n i : ℕ) → n * i + n - n * i ≡ n
-part-size n i = omega arith
+part-size : (start n : ℕ) → start + n - start ≡ n
+part-size start n = omega arith
 
 pub part-inside : {set : Numbers} {sr e a t public : List ℕ} → ForPut set sr e a t public → (i : ℕ) → i < set .k → set .n * i + set .n ≤ length e
 part-inside {set} asked i l = rw (asked .e-long) (row-fits (set .n) (set .k) i l)
@@ -110,68 +111,77 @@ module _ {set : Numbers} {seedA sr e a₀ t₀ old : List ℕ} (asked : ForPut s
     still-needed : set .n ≤ d .need
     still-needed = omega (arith, turn .need-is, row-fits (set .n) (set .k) i l)
 
-    pub next-asks : ForNext set d sr (take (set .n * i + set .n - set .n * i) (drop (set .n * i) e)) a t
-    next-asks =
-        record {
-          good = asked .good;
-          valid = turn .valid;
-          needed = still-needed;
-          s-is = asked .s-is;
-          e-long = rw (part-size (set .n) i) (polynomial-length (set .n) (set .k) i e (asked .e-long) l);
-          a-long = turn .a-long;
-          t-long = turn .t-long;
-        }
-
-    module _ {t₁ : List ℕ} {d₁ : DrawA} (more : OneMore set d sr (take (set .n * i + set .n - set .n * i) (drop (set .n * i) e)) t₁ d₁) where
-      t-is : t₁ ≡ tFrom set (polynomial (set .n) i (allA set seedA)) sr (eOf set e i)
-      t-is = more .t-is ∙ ap₂ (λ x m. tFrom set (take (set .n) x) sr (take m (drop (set .n * i) e))) (turn .rest) (part-size (set .n) i)
-
-      pub pack-asks : PacksT set t₁ i public
-      pack-asks =
+    -- a part of e with as many elements as a polynomial
+    module _ (start : ℕ) (inside : start + set .n ≤ length e) where
+      pub next-asks : ForNext set d sr (take (start + set .n - start) (drop start e)) a t
+      next-asks =
           record {
             good = asked .good;
-            polynomial = ap length t-is ∙ tFrom-length set _ sr (eOf set e i);
-            below = rw t-is (tFrom-below set (asked .good) (polynomial (set .n) i (allA set seedA)) sr (eOf set e i));
-            inside = l;
-            long = written-length (turn .done) ∙ asked .public-long;
+            valid = turn .valid;
+            needed = still-needed;
+            s-is = asked .s-is;
+            e-long = rw (part-size start (set .n)) (part-length start (set .n) e inside);
+            a-long = turn .a-long;
+            t-long = turn .t-long;
           }
 
-      pub turn-more : {a₁ public₁ : List ℕ} → length a₁ ≡ length a
-          → public₁ ≡ take (2 + tBytes set * i) public ++ (packed (set .«t_bits») t₁ ++ drop (2 + tBytes set * i + tBytes set) public)
-          → Turn set seedA sr e old a₁ t₁ public₁ d₁ (i + 1)
-      unfolding packedUpto joined
-      turn-more {public₁ = public₁} kept put =
-          record {
-            within = omega arith;
-            rest = more .rest ∙ ap (drop (set .n)) (turn .rest) ∙ drop-drop (set .n) (set .n * i) (allA set seedA) ∙ ap (λ m. drop m (allA set seedA)) next;
-            valid = more .valid;
-            need-is = omega (arith, more .need-is, turn .need-is, still-needed);
-            a-long = kept ∙ turn .a-long;
-            t-long = ap length t-is ∙ tFrom-length set _ sr (eOf set e i);
-            done =
-                rw (add-one, ← append-assoc (take 2 old) made one)
-                (written-more (turn .done) (2 + tBytes set * i) (tBytes set) one (sym so-far) one-long (stretch-fits set old i (asked .public-long) l) placed);
-          }
-        where
-          next : set .n * i + set .n ≡ set .n * (i + 1)
-          next = omega arith
+      module _ {t₁ : List ℕ} {d₁ : DrawA} (more : OneMore set d sr (take (start + set .n - start) (drop start e)) t₁ d₁) where
+        t-length : length t₁ ≡ set .n
+        t-length = ap length (more .t-is) ∙ tFrom-length set _ sr _
 
-          made : List ℕ
-          made = packedUpto set (allA set seedA) sr e i
+        pub pack-asks : PacksT set t₁ i public
+        pack-asks =
+            record {
+              good = asked .good;
+              polynomial = t-length;
+              below = rw (more .t-is) (tFrom-below set (asked .good) _ sr _);
+              inside = l;
+              long = written-length (turn .done) ∙ asked .public-long;
+            }
 
-          one : List ℕ
-          one = packed (set .«t_bits») (tFrom set (polynomial (set .n) i (allA set seedA)) sr (eOf set e i))
+        -- where it is e_(i + 1)
+        pub turn-more : {a₁ public₁ : List ℕ} → start ≡ set .n * i → length a₁ ≡ length a
+            → public₁ ≡ take (2 + tBytes set * i) public ++ (packed (set .«t_bits») t₁ ++ drop (2 + tBytes set * i + tBytes set) public)
+            → Turn set seedA sr e old a₁ t₁ public₁ d₁ (i + 1)
+        unfolding packedUpto joined
+        turn-more {public₁ = public₁} start-is kept put =
+            record {
+              within = omega arith;
+              rest = more .rest ∙ ap (drop (set .n)) (turn .rest) ∙ drop-drop (set .n) (set .n * i) (allA set seedA) ∙ ap (λ m. drop m (allA set seedA)) next;
+              valid = more .valid;
+              need-is = omega (arith, more .need-is, turn .need-is, still-needed);
+              a-long = kept ∙ turn .a-long;
+              t-long = t-length;
+              done =
+                  rw (add-one, ← append-assoc (take 2 old) made one)
+                  (written-more (turn .done) (2 + tBytes set * i) (tBytes set) one (sym so-far) one-long (stretch-fits set old i (asked .public-long) l) placed);
+            }
+          where
+            next : set .n * i + set .n ≡ set .n * (i + 1)
+            next = omega arith
 
-          one-long : length one ≡ tBytes set
-          one-long = packed-t-length set _ (tFrom-length set _ sr (eOf set e i))
+            t-is : t₁ ≡ tFrom set (polynomial (set .n) i (allA set seedA)) sr (eOf set e i)
+            t-is =
+                more .t-is
+                ∙ ap₂ (λ x m. tFrom set (take (set .n) x) sr (take m (drop start e))) (turn .rest) (part-size start (set .n))
+                ∙ ap (λ m. tFrom set (polynomial (set .n) i (allA set seedA)) sr (take (set .n) (drop m e))) start-is
 
-          so-far : length (take 2 old ++ made) ≡ 2 + tBytes set * i
-          so-far =
-              length-append (take 2 old) made
-              ∙ ap₂ _+_ (length-take-le 2 old (omega (arith, asked .public-long))) (upto-length set (allA set seedA) sr e i)
+            made : List ℕ
+            made = packedUpto set (allA set seedA) sr e i
 
-          placed : public₁ ≡ take (2 + tBytes set * i) public ++ (one ++ drop (2 + tBytes set * i + tBytes set) public)
-          placed = put ∙ ap (λ x. take (2 + tBytes set * i) public ++ (packed (set .«t_bits») x ++ drop (2 + tBytes set * i + tBytes set) public)) t-is
+            one : List ℕ
+            one = packed (set .«t_bits») (tFrom set (polynomial (set .n) i (allA set seedA)) sr (eOf set e i))
+
+            one-long : length one ≡ tBytes set
+            one-long = packed-t-length set _ (tFrom-length set _ sr (eOf set e i))
+
+            so-far : length (take 2 old ++ made) ≡ 2 + tBytes set * i
+            so-far =
+                length-append (take 2 old) made
+                ∙ ap₂ _+_ (length-take-le 2 old (omega (arith, asked .public-long))) (upto-length set (allA set seedA) sr e i)
+
+            placed : public₁ ≡ take (2 + tBytes set * i) public ++ (one ++ drop (2 + tBytes set * i + tBytes set) public)
+            placed = put ∙ ap (λ x. take (2 + tBytes set * i) public ++ (packed (set .«t_bits») x ++ drop (2 + tBytes set * i + tBytes set) public)) t-is
 
   pub turn-all : {a t public : List ℕ} {d : DrawA} {i : ℕ} → Turn set seedA sr e old a t public d i → set .k ≤ i
       → public ≡ take 2 old ++ (packedUpto set (allA set seedA) sr e (set .k) ++ drop (2 + set .k * tBytes set) old)

@@ -1,7 +1,8 @@
 -- `keys::public::put_t` meets its contract. The loop's invariant: t_1..t_i stand packed in their stretches, and the rest of the record is
 -- as it was. Assumes nothing.
 use mathlib.Core.Path.{sym, _∙_}
-use Prim.Native.Nat.{_-_}
+use Prim.Native.Nat.{_+_, _*_, _-_, _≤_, _<_}
+use lib.ListN.{length}
 use native.Mathlib.Omega.{arith}
 use Rattle.whole.specs.Written.{written-length}
 use Rattle.keys.proofs.PutLaws.{Turn, turn-none, part-inside, next-asks, pack-asks, turn-more, turn-all}
@@ -22,49 +23,54 @@ loop-holds : tie.Need-loop-holds Inv-loop μ-loop
 loop-holds c =
     turn-none (c .before .before .before .before .before .before .before .pre) (c .start-a .ensures)
 
+-- in the loop's body i is below k
+below-k : (c : tie.In-loop Inv-loop μ-loop) → c .before .loop .i < c .before .before .before .before .before .before .before .before .before .args .set .k
+below-k c = omega (arith, c .loop-test .taken)
+
+-- and the polynomial from n · i on ends inside e
+ends-inside : (c : tie.In-loop Inv-loop μ-loop)
+    → let a = c .before .before .before .before .before .before .before .before .before .args in
+    a .set .n * c .before .loop .i + a .set .n ≤ length (a .e .now)
+ends-inside c = part-inside (c .before .before .before .before .before .before .before .before .before .pre) (c .before .loop .i) (below-k c)
+
 mul-start : tie.Need-mul-start Inv-loop μ-loop
-mul-start c =
-    omega (arith, part-inside (c .before .before .before .before .before .before .before .before .before .pre) (c .before .loop .i) (c .loop-test .taken))
+mul-start c = omega (arith, ends-inside c)
 
 add-next-t : tie.Need-add-next-t Inv-loop μ-loop
-add-next-t c =
-    omega (arith, part-inside (c .before .before .before .before .before .before .before .before .before .pre) (c .before .loop .i) (c .loop-test .taken))
+add-next-t c = omega (arith, ends-inside c)
 
 sub-next-t : tie.Need-sub-next-t Inv-loop μ-loop
-sub-next-t c =
-    omega arith
+sub-next-t c = omega arith
 
 part-next-t-start : tie.Need-part-next-t-start Inv-loop μ-loop
-part-next-t-start c =
-    omega arith
+part-next-t-start c = omega arith
 
 part-next-t-end : tie.Need-part-next-t-end Inv-loop μ-loop
-part-next-t-end c =
-    part-inside (c .before .before .before .before .before .before .before .before .before .pre) (c .before .loop .i) (c .loop-test .taken)
+part-next-t-end c = omega (arith, ends-inside c)
 
 next-t-requires : tie.Need-next-t-requires Inv-loop μ-loop
 next-t-requires c κs =
     let turn = c .before .before .before in
-    next-asks (turn .before .before .before .before .before .before .before .before .before .pre) (turn .before .loop .inv) (turn .loop-test .taken)
+    next-asks (turn .before .before .before .before .before .before .before .before .before .pre) (turn .before .loop .inv) (below-k turn) _ (omega (arith, ends-inside turn))
 
 pack-t-requires : tie.Need-pack-t-requires Inv-loop μ-loop
 pack-t-requires c κs =
     let turn = c .before .before .before .before .before .before .before .before .before .before in
-    pack-asks (turn .before .before .before .before .before .before .before .before .before .pre) (turn .before .loop .inv) (turn .loop-test .taken) (c .before .before .before .before .before .before .next-t .ensures)
+    pack-asks (turn .before .before .before .before .before .before .before .before .before .pre) (turn .before .loop .inv) (below-k turn) _ (omega (arith, ends-inside turn)) (c .before .before .before .before .before .before .next-t .ensures)
 
 add-i : tie.Need-add-i Inv-loop μ-loop
 add-i c =
     let turn = c .before .before .before .before .before .before .before .before .before .before .before .before .before in
-    omega (arith, turn .loop-test .taken, turn .before .before .before .before .before .before .before .before .before .pre .good .k-few)
+    omega (arith, below-k turn, turn .before .before .before .before .before .before .before .before .before .pre .good .k-few)
 
 loop-less : tie.Need-loop-less Inv-loop μ-loop
-loop-less c =
-    omega (arith, c .before .before .before .before .before .before .before .before .before .before .before .before .before .loop-test .taken)
+loop-less c = omega (arith, below-k (c .before .before .before .before .before .before .before .before .before .before .before .before .before))
 
 loop-again : tie.Need-loop-again Inv-loop μ-loop
 loop-again c =
     let turn = c .before .before .before .before .before .before .before .before .before .before .before .before .before in
-    turn-more (turn .before .before .before .before .before .before .before .before .before .pre) (turn .before .loop .inv) (turn .loop-test .taken) (c .before .before .before .before .before .before .before .before .before .next-t .ensures) (c .before .before .before .before .before .before .before .before .before .next-t .kept .1 .1 .1 .1 .0) (c .before .before .pack-t .ensures)
+    let next = c .before .before .before .before .before .before .before .before .before in
+    turn-more (turn .before .before .before .before .before .before .before .before .before .pre) (turn .before .loop .inv) (below-k turn) _ (omega (arith, ends-inside turn)) (next .next-t .ensures) (omega arith) (next .next-t .kept .1 .1 .1 .1 .0) (c .before .before .pack-t .ensures)
 
 same-length : tie.Need-same-length Inv-loop μ-loop
 same-length c =
@@ -80,7 +86,7 @@ same-length-3 c =
 
 returns : tie.Need-returns Inv-loop μ-loop
 returns c =
-    turn-all (c .before .before .before .before .before .before .before .before .before .pre) (c .before .loop .inv) (c .loop-test .left)
+    turn-all (c .before .before .before .before .before .before .before .before .before .pre) (c .before .loop .inv) (omega (arith, c .loop-test .left))
 
 pub put-t-spec : {M : Type 1} → statement M
 put-t-spec =
