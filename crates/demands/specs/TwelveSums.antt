@@ -16,20 +16,14 @@ use Rattle.rounding.specs.Parts.{low, high}
 use Rattle.rounding.specs.Tests.{lowPasses, sizePasses, zPasses}
 use Rattle.ring.specs.Product.{mul, turn}
 use Rattle.ring.specs.Lists.{integers}
-use Rattle.ring.specs.Sparse.{sparse, term}
 use Rattle.ring.specs.Largest.{largest, sizes, sumPasses, places, push, added}
 use Rattle.packing.specs.Digits.{packed, digits, value}
-use Rattle.sampling.specs.Candidates.{emit}
-use Rattle.sampling.specs.Values.{values}
-use Rattle.sampling.specs.Positions.{Drawn, positions, free, isIn, polynomialOf}
+use Rattle.sampling.specs.Values.{values, sum-10}
+use Rattle.sampling.specs.Positions.{positions, coefficients, sum-11}
 use Rattle.sets.specs.SetI.{setI}
 
 abbrev minus : ℕ → ℤ
 minus a = negℤ (pos a)
-
--- c as the coefficients of x⁰ to xⁿ⁻¹
-coefficients : ℕ → List Drawn → List ℤ
-coefficients n c = table n (polynomialOf c)
 
 -- x³ and x, of four coefficients
 abbrev x³ : List ℤ
@@ -88,7 +82,7 @@ All [] = Unit {0}
 All (A ∷ As) = A × All As
 
 pub twelve-sums : All sums
-unfolding sums coefficients times spread residue sum row signed centred low high lowPasses sizePasses zPasses mul turn sparse term sumPasses places push added packed digits value emit values positions free isIn
+unfolding sums times spread residue sum row signed centred low high lowPasses sizePasses zPasses mul turn sumPasses places push added packed digits value
 twelve-sums = (
   refl,
   (
@@ -108,9 +102,9 @@ twelve-sums = (
                 (
                   refl,
                   (
-                    refl,
+                    sum-10,
                     (
-                      refl,
+                      sum-11,
                       (
                         (refl, refl, refl, refl),
                         tt,

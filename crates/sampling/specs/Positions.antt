@@ -1,16 +1,18 @@
 -- The candidate rule for positions with signs. Candidates come in stream order. One whose position is free is taken. One whose
 -- position is taken already is skipped if at least as many candidates remain after it as positions are still needed; otherwise
 -- the next free position upward, from n − 1 on to 0, gets its sign. Positions are answered in the order drawn.
--- Assumes nothing: these are definitions.
+-- Assumes nothing: these are definitions, and one sum that they give.
+use mathlib.Core.Path.{_≡_, refl}
 use mathlib.Core.Bool.{Bool, true, false, cond, not, _||_}
 use mathlib.Core.List.{List, [], _∷_, map}
 use Prim.Native.Nat.{ℕ, zero, suc, _+_, _/_, _%_, _^_}
 use lib.Dec.{ltb, eqb}
 use lib.IntN.{ℤ, pos, negsuc}
 use lib.ListN.{length}
-use Rattle.whole.specs.Table.{table}
+use Rattle.whole.specs.Sum.{sum}
+use Rattle.whole.specs.Table.{table, row}
 use Rattle.ring.specs.Product.{Poly}
-use Rattle.ring.specs.Sparse.{sparse}
+use Rattle.ring.specs.Sparse.{sparse, term}
 use Rattle.sampling.specs.Candidates.{emit, held, piece}
 
 -- a position drawn, with its sign
@@ -62,3 +64,15 @@ signsOf c = map (λ (t : Drawn). t .sign) c
 
 abbrev pub polynomialOf : List Drawn → Poly
 polynomialOf c = sparse (positionsOf c) (signsOf c)
+
+-- its coefficients of x⁰ to xⁿ⁻¹
+unfoldable pub coefficients : ℕ → List Drawn → List ℤ
+coefficients n c = table n (polynomialOf c)
+
+-- document 01's sum 11: n = 8, h = 3, candidates 3+, 3−, 5+ give x³ − x⁴ + x⁵. It stands with the rule, so that a wrong count is
+-- refused here.
+pub sum-11 : coefficients 8 (positions 8 3 []
+    (record { position = 3; sign = pos 1 } ∷ record { position = 3; sign = negsuc 0 } ∷ record { position = 5; sign = pos 1 } ∷ []))
+    ≡ pos 0 ∷ pos 0 ∷ pos 0 ∷ pos 1 ∷ negsuc 0 ∷ pos 1 ∷ pos 0 ∷ pos 0 ∷ []
+unfolding coefficients positions emit free isIn sparse term sum row
+sum-11 = refl

@@ -1,5 +1,6 @@
 -- The streams in the sponge: what is squeezed after the mark and the inputs were absorbed is the stream.
 --     stream-squeezed     n bytes squeezed from the fresh state of stream j that has absorbed the inputs
+--     two-squeezed        bytes squeezed after two inputs were absorbed one after another
 --     challenge-bytes     H: the high parts' bytes, G of the message and g, absorbed one after another
 --     challenge-squeezed  the same where the bytes are those of the high parts
 -- Assumes nothing.
@@ -38,6 +39,12 @@ unfolding fresh
 stream-squeezed digit j inputs n h l b =
     ap (squeezed n) (absorbed-absorbed blank (streamMark digit j) inputs)
     ∙ shake (streamMark digit j ++ inputs) n (below-append 256 (streamMark digit j) inputs (mark-below digit j h l) b)
+
+-- two more inputs, one after another, and what is squeezed then
+pub two-squeezed : (s : Sponge) (a b : List ℕ) {s₁ s₂ : Sponge} {n m : ℕ} {out : List ℕ}
+    → s₁ ≡ absorbed s a → s₂ ≡ absorbed s₁ b → out ≡ squeezed n s₂ → n ≡ m → out ≡ squeezed m (absorbed (absorbed s a) b)
+two-squeezed s a b {s₂ = s₂} {m = m} first second out enough =
+    out ∙ ap (λ (k : ℕ). squeezed k s₂) enough ∙ ap (squeezed m) (second ∙ ap (λ (t : Sponge). absorbed t b) first)
 
 -- three inputs, one after another
 pub absorbed-three : (s : Sponge) (a b c : List ℕ) → absorbed (absorbed (absorbed s a) b) c ≡ absorbed s (a ++ b ++ c)

@@ -1,7 +1,8 @@
 -- The candidate rule for values below a range. Candidates come in stream order. One that is in range is taken. One that is out
 -- of range is skipped if at least as many candidates remain after it as values are still needed; otherwise the range is
 -- subtracted from it and it is taken.
--- Assumes nothing: these are definitions.
+-- Assumes nothing: these are definitions, and one sum that they give.
+use mathlib.Core.Path.{_≡_, refl}
 use mathlib.Core.Bool.{Bool, true, false, cond, _||_}
 use mathlib.Core.List.{List, [], _∷_}
 use Prim.Native.Nat.{ℕ, zero, suc, _-_}
@@ -24,3 +25,8 @@ values range zero (c ∷ cs) = []
 values range (suc need) (c ∷ cs) =
     emit (takesValue range (suc need) (length cs) c) (reduced range c)
     (values range (cond (takesValue range (suc need) (length cs) c) need (suc need)) cs)
+
+-- document 01's sum 10: range 5, three needed. It stands with the rule, so that a wrong count is refused here.
+pub sum-10 : values 5 3 (6 ∷ 7 ∷ 2 ∷ 5 ∷ 1 ∷ []) ≡ 2 ∷ 0 ∷ 1 ∷ []
+unfolding values emit
+sum-10 = refl

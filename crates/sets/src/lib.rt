@@ -5,6 +5,12 @@ ghost use Prim.Native.Nat.{_<_};
 ghost use Rattle.sets.specs.Marks.{fresh};
 ghost use Rattle.sets.specs.SetI.{setI};
 
+// The longest message, in bytes.
+pub const MESSAGE_LIMIT: usize = 32768;
+
+// The largest budget of counters.
+pub const BUDGET_LIMIT: u32 = 1024;
+
 // What a part of the scheme takes from its set.
 pub struct Numbers {
     // coefficients of a polynomial

@@ -2,77 +2,29 @@
 use mathlib.Core.Path.{_≡_, sym, ap, ap₂, _∙_}
 use mathlib.Core.Bool.{Bool, true, false, _&&_}
 use mathlib.Core.List.{List}
-use Prim.Native.Nat.{ℕ, _+_, _*_, _-_, _≤_, _<_, zero-le}
-use native.Mathlib.Nat.{le-antisymm}
-use native.Mathlib.Numerals.{add-one}
+use Prim.Native.Nat.{ℕ, _+_, _*_, _-_, _≤_, _<_}
 use native.Mathlib.Omega.{arith}
 use lib.Dec.{eqb, leb}
 use lib.ListN.{length, take, drop}
 use borrow.Author.Tests.{le-leb, lt-leb, eqb-true, eq-eqb, ne-eqb}
 use Rattle.whole.specs.Parts.{part-length}
-use Rattle.whole.specs.Refusal.{answer, eachBelow}
+use Rattle.whole.specs.Refusal.{answer}
 use Rattle.whole.specs.RefusalLaws.{answer-pass, answer-fail, answer-none, both-first, not-first, not-second}
 use Rattle.ring.specs.Largest.{sumPasses, Few}
 use Rattle.sets.specs.declared.Numbers.{Numbers}
 use Rattle.sets.specs.Good.{Good}
 use Rattle.sets.specs.Limits.{messageLimit, budgetLimit}
 use Rattle.records.specs.Layout.{marked, seedBytes, secretBytes, signatureBytes}
-use Rattle.records.specs.Secret.{sOf, allE, eOf, inByteRange}
-use Rattle.records.specs.PublicLaws.{row-fits}
+use Rattle.records.specs.Secret.{sOf, allE, inByteRange}
 use Rattle.keys.specs.Key.{eachEPasses}
 use Rattle.signing.specs.Sign.{signTests}
 use Rattle.signing.specs.Answers.{secretsTests, valueTests}
-use Rattle.signing.specs.Asks.{TestsE, TestsValues, TestsInputs}
-use Rattle.signing.proofs.Rows.{lent-is, each-none, each-more, each-fails}
+use Rattle.signing.specs.Asks.{TestsSecrets, TestsValues, TestsInputs}
 
--- ---- checkE
-
--- e_1..e_i pass
-pub record Checking (set : Numbers) (e slots : List ℕ) (i : ℕ) : Type 0 where
-  pub near : i ≤ set .k
-  pub room : length slots ≡ set .h
-  pub passed : eachBelow i (λ j. sumPasses (set .h) (set .e) (eOf set e j)) ≡ true
+-- ---- the h places
 
 pub few-slots : {set : Numbers} {slots : List ℕ} → Good set → length slots ≡ set .h → Few slots
 few-slots good e = record { few = omega (arith, good .h-drawn) }
-
-module _ {set : Numbers} {e first : List ℕ} (t : TestsE set e first) where
-  pub checking-none : Checking set e first 0
-  checking-none = record { near = zero-le; room = t .places-long; passed = each-none (λ j. sumPasses (set .h) (set .e) (eOf set e j)) }
-
-  module _ {slots : List ℕ} {i : ℕ} (h : Checking set e slots i) where
-    pub checking-few : Few slots
-    checking-few = few-slots (t .good) (h .room)
-
-    pub checking-fits : i < set .k → set .n * i + set .n ≤ length e
-    checking-fits l = omega (arith, row-fits (set .n) (set .k) i l, t .e-long)
-
-    same : {r : Bool} → r ≡ sumPasses (length slots) (set .e) (take (set .n * i + set .n - set .n * i) (drop (set .n * i) e))
-        → r ≡ sumPasses (set .h) (set .e) (eOf set e i)
-    same f = f ∙ ap₂ (λ (n : ℕ) (x : List ℕ). sumPasses n (set .e) x) (h .room) (lent-is (set .n) i e)
-
-    pub checking-more : {new : List ℕ} {r : Bool} → i < set .k → length new ≡ length slots
-        → r ≡ sumPasses (length slots) (set .e) (take (set .n * i + set .n - set .n * i) (drop (set .n * i) e)) → r ≡ true
-        → Checking set e new (i + 1)
-    checking-more l k f g =
-        record {
-          near = rw add-one l;
-          room = k ∙ h .room;
-          passed = each-more i (λ j. sumPasses (set .h) (set .e) (eOf set e j)) (h .passed) (sym (same f) ∙ g);
-        }
-
-    pub checking-fails : {r : Bool} → i < set .k
-        → r ≡ sumPasses (length slots) (set .e) (take (set .n * i + set .n - set .n * i) (drop (set .n * i) e)) → r ≡ false
-        → false ≡ eachEPasses set e
-    unfolding eachEPasses
-    checking-fails l f g = sym (each-fails (set .k) i (λ j. sumPasses (set .h) (set .e) (eOf set e j)) l (sym (same f) ∙ g))
-
-    pub checking-all : set .k ≤ i → true ≡ eachEPasses set e
-    unfolding eachEPasses
-    checking-all l = sym (ap (λ (j : ℕ). eachBelow j (λ j. sumPasses (set .h) (set .e) (eOf set e j))) whole ∙ h .passed)
-      where
-        whole : set .k ≡ i
-        whole = le-antisymm l (h .near)
 
 -- ---- s and e_1..e_k
 
@@ -154,7 +106,7 @@ module _ (set : Numbers) (secret : List ℕ) (long : length secret ≡ secretByt
   e-long = ap₂ (λ (m j : ℕ). length (take m (drop j secret))) e-size a ∙ part-length (2 + set .n) (set .k * set .n) secret (omega arith)
 
 pub e-tests : {set : Numbers} {secret slots : List ℕ} (t : TestsValues set secret slots) {at end : ℕ} (a : at ≡ 2 + set .n) (b : end ≡ 2 + set .n + set .k * set .n)
-    → TestsE set (take (end - at) (drop at secret)) slots
+    → TestsSecrets set (take (end - at) (drop at secret)) slots
 e-tests {set} {secret} t a b = record { good = t .good; e-long = e-long set secret (t .long) a b; places-long = t .places-long }
 
 -- ---- and all of them

@@ -110,8 +110,8 @@ pub record Secrets (set : Numbers) (s e : List ℕ) : Type 0 where
   pub s-long : length s ≡ set .n
   pub e-long : length e ≡ set .k * set .n
 
--- checkE of e_1..e_k: h places for the largest
-pub record TestsE (set : Numbers) (e places : List ℕ) : Type 0 where
+-- the tests of s and e_1..e_k: h places for the largest
+pub record TestsSecrets (set : Numbers) (e places : List ℕ) : Type 0 where
   pub good : Good set
   pub e-long : length e ≡ set .k * set .n
   pub places-long : length places ≡ set .h

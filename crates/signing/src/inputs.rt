@@ -8,10 +8,9 @@ ghost use Rattle.whole.specs.Refusal.{answer};
 ghost use Rattle.sets.specs.Good.{Good};
 ghost use Rattle.sets.specs.Limits.{budgetLimit};
 ghost use Rattle.records.specs.Layout.{seedBytes, secretBytes, signatureBytes};
-ghost use Rattle.keys.specs.Key.{eachEPasses};
 ghost use Rattle.signing.specs.Sign.{signTests};
 ghost use Rattle.signing.specs.Answers.{secretsTests, valueTests, inputsNumber};
-ghost use Rattle.signing.specs.Asks.{TestsE, TestsValues, TestsInputs};
+ghost use Rattle.signing.specs.Asks.{TestsSecrets, TestsValues, TestsInputs};
 
 // What the tests answer.
 pub enum Inputs {
@@ -39,7 +38,7 @@ fn lengths(set: Numbers, secret: usize, r: usize, signature: usize) -> bool
     ensures { λ x. ⌜ x ≡ (eqb secret (secretBytes set) && (eqb r seedBytes && eqb signature (signatureBytes set))) ⌝ }
 {
     if secret == records::secret::secret_bytes(set) {
-        if r == 32 {
+        if r == records::SEED_BYTES {
             signature == records::signature::signature_bytes(set)
         } else {
             false
@@ -53,30 +52,16 @@ fn lengths(set: Numbers, secret: usize, r: usize, signature: usize) -> bool
 fn budget_fits(budget: u32) -> bool
     ensures { λ r. ⌜ r ≡ (leb 1 budget && leb budget budgetLimit) ⌝ }
 {
-    if 1 <= budget { budget <= 1024 } else { false }
-}
-
-// Whether checkE passes for every e_i. slots takes the h largest of one e_i at a time.
-fn each_e(set: Numbers, e: &[u8], slots: &mut [u32]) -> bool
-    requires { ⌜ TestsE set (now e) (now slots) ⌝ }
-    ensures { λ r. ⌜ r ≡ eachEPasses set (now (e .entry)) ⌝ }
-{
-    let n = set.n;
-    let k = set.k;
-    let mut i = 0;
-    while i < k {
-        let start = n * i;
-        if !ring::largest::sum_passes(&e[start..start + n], slots, set.e) {
-            return false;
-        }
-        i += 1;
+    if 1 <= budget {
+        budget <= sets::BUDGET_LIMIT
+    } else {
+        false
     }
-    true
 }
 
 // Tests 5 to 7, of s and e_1..e_k.
 fn test_secrets(set: Numbers, s: &[u8], e: &[u8], slots: &mut [u32]) -> Inputs
-    requires { ⌜ TestsE set (now e) (now slots) ⌝ }
+    requires { ⌜ TestsSecrets set (now e) (now slots) ⌝ }
     ensures { λ r. ⌜ inputsNumber r ≡ answer (secretsTests set (now (s .entry)) (now (e .entry))) ⌝ }
 {
     if !records::secret::both_in_range(s, e) {
@@ -85,7 +70,7 @@ fn test_secrets(set: Numbers, s: &[u8], e: &[u8], slots: &mut [u32]) -> Inputs
     if !ring::largest::sum_passes(s, slots, set.s) {
         return Inputs::SumS;
     }
-    if !each_e(set, e, slots) {
+    if !keys::tests::each_e_passes(set, e, slots) {
         return Inputs::SumE;
     }
     Inputs::Pass
@@ -105,7 +90,7 @@ pub fn test_values(
     if !records::pieces::is_marked(set, 2, secret) {
         return Inputs::Mark;
     }
-    if 32768 < message {
+    if sets::MESSAGE_LIMIT < message {
         return Inputs::Message;
     }
     if !budget_fits(budget) {

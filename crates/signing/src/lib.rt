@@ -1,7 +1,7 @@
 // Signing, Algorithm 2: one attempt, the search for the smallest counter that passes, and the entry for set I.
-pub mod attempt;
-pub mod inputs;
-pub mod search;
+mod attempt;
+mod inputs;
+mod search;
 
 use inputs::Inputs;
 use search::Searched;

@@ -1,7 +1,9 @@
 -- `sets::fresh_state` meets its contract. Assumes nothing.
-use mathlib.Core.Path.{_∙_}
+use mathlib.Core.Path.{ap, _∙_}
 use borrow.Author.Needs.{needs}
-use Rattle.sets.specs.Marks.{fresh}
+use Rattle.shake.specs.declared.Sponge.{Sponge}
+use Rattle.shake.specs.Sponge.{absorbed}
+use Rattle.sets.specs.Marks.{streamMark, fresh}
 use Rattle.sets.proofs.fresh_state.Statement.{statement}
 use Rattle.sets.proofs.fresh_state.Tie as tie
 
@@ -22,7 +24,7 @@ absorb-requires c κs = search needs
 
 returns : tie.Need-returns
 unfolding fresh
-returns c = c .absorb .ensures ∙ rw (c .before .before .blank .ensures)
+returns c = c .absorb .ensures ∙ ap (λ (s : Sponge). absorbed s (streamMark (c .before .before .before .args .digit) (c .before .before .before .args .j))) (c .before .before .blank .ensures)
 
 pub fresh-state-spec : {M : Type 1} → statement M
 fresh-state-spec =

@@ -1,5 +1,5 @@
 -- `challenge_of` meets its contract: the state that it is handed absorbs two inputs and is squeezed. Assumes nothing.
-use mathlib.Core.Path.{_∙_}
+use Rattle.sampling.specs.SpongeLaws.{two-squeezed}
 use borrow.Author.Needs.{needs}
 use Rattle.sampling.proofs.digests.challenge_of.Statement.{statement}
 use Rattle.sampling.proofs.digests.challenge_of.Tie as tie
@@ -19,7 +19,9 @@ same-length c = search needs
 returns : tie.Need-returns
 returns c =
     let start = c .before .before .before .before .before .before .before .before .before in
-    c .before .before .squeeze .ensures .1 ∙ rw (start .pre, c .before .before .before .before .absorb2 .ensures, c .before .before .before .before .before .absorb .ensures)
+    let absorbs = c .before .before .before .before in
+    two-squeezed (start .args .highs) (start .args .digest .now) (start .args .g .now) (absorbs .before .absorb .ensures) (absorbs .absorb2 .ensures)
+    (c .before .before .squeeze .ensures .1) (start .pre)
 
 pub challenge-of-spec : {M : Type 1} → statement M
 challenge-of-spec =

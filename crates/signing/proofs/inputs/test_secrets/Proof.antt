@@ -22,24 +22,24 @@ returns-2 : tie.Need-returns-2
 returns-2 c =
     secrets-s _ _ _ (c .before .before .before .before .before .before .both-in-range .ensures) (not-false _ (c .before .before .before .before .before .if1 .left)) (c .before .before .before .before .before .before .before .before .before .before .pre .places-long) (c .before .before .before .sum-passes .ensures .0) (not-true _ (c .if2 .taken))
 
-each-e-requires : tie.Need-each-e-requires
-each-e-requires c κs =
+each-e-passes-requires : tie.Need-each-e-passes-requires
+each-e-passes-requires c κs =
     let start = c .before .before .before .before .before .before .before .before .before .before .before in
-    record { good = start .pre .good; e-long = start .pre .e-long; places-long = c .before .before .before .before .sum-passes .kept .1 .0 ∙ start .pre .places-long }
+    record { good = start .pre .good; e-long = start .pre .e-long; slots-long = c .before .before .before .before .sum-passes .kept .1 .0 ∙ start .pre .places-long }
 
 same-length-2 : tie.Need-same-length-2
 same-length-2 c = search needs
 
 returns-3 : tie.Need-returns-3
 returns-3 c =
-    secrets-e _ _ _ (c .before .before .before .before .before .before .before .before .before .before .before .both-in-range .ensures) (not-false _ (c .before .before .before .before .before .before .before .before .before .before .if1 .left)) (c .before .before .before .before .before .before .before .before .before .before .before .before .before .before .before .pre .places-long) (c .before .before .before .before .before .before .before .before .sum-passes .ensures .0) (not-false _ (c .before .before .before .before .before .if2 .left)) (c .before .before .before .each-e .ensures) (not-true _ (c .if3 .taken))
+    secrets-e _ _ _ (c .before .before .before .before .before .before .before .before .before .before .before .both-in-range .ensures) (not-false _ (c .before .before .before .before .before .before .before .before .before .before .if1 .left)) (c .before .before .before .before .before .before .before .before .before .before .before .before .before .before .before .pre .places-long) (c .before .before .before .before .before .before .before .before .sum-passes .ensures .0) (not-false _ (c .before .before .before .before .before .if2 .left)) (c .before .before .before .each-e-passes .ensures) (not-true _ (c .if3 .taken))
 
 same-length-3 : tie.Need-same-length-3
 same-length-3 c = search needs
 
 returns-4 : tie.Need-returns-4
 returns-4 c =
-    secrets-pass _ _ _ (c .before .before .before .before .before .before .before .before .before .before .before .both-in-range .ensures) (not-false _ (c .before .before .before .before .before .before .before .before .before .before .if1 .left)) (c .before .before .before .before .before .before .before .before .before .before .before .before .before .before .before .pre .places-long) (c .before .before .before .before .before .before .before .before .sum-passes .ensures .0) (not-false _ (c .before .before .before .before .before .if2 .left)) (c .before .before .before .each-e .ensures) (not-false _ (c .if3 .left))
+    secrets-pass _ _ _ (c .before .before .before .before .before .before .before .before .before .before .before .both-in-range .ensures) (not-false _ (c .before .before .before .before .before .before .before .before .before .before .if1 .left)) (c .before .before .before .before .before .before .before .before .before .before .before .before .before .before .before .pre .places-long) (c .before .before .before .before .before .before .before .before .sum-passes .ensures .0) (not-false _ (c .before .before .before .before .before .if2 .left)) (c .before .before .before .each-e-passes .ensures) (not-false _ (c .if3 .left))
 
 pub test-secrets-spec : {M : Type 1} → statement M
 test-secrets-spec =
@@ -50,7 +50,7 @@ test-secrets-spec =
     sum-passes-requires
     same-length
     returns-2
-    each-e-requires
+    each-e-passes-requires
     same-length-2
     returns-3
     same-length-3
