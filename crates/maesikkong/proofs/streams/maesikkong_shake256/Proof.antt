@@ -26,11 +26,12 @@ returns c =
     let start = c .before .before .before .before .before .before .before .before in
     let m = start .args .message .now in
     let n = length (start .args .out .now) in
-    let absorbs = c .before .before .before .before in
-    (refl,
-    c .before .before .squeeze .ensures .1
-    ∙ ap (squeezed n) (absorbs .absorb .ensures ∙ ap (λ (s : Sponge). absorbed s m) (absorbs .before .blank .ensures))
-    ∙ shake m n (record { at = λ i l. c .before .before .before .before .before .before .before .shared-slice-known .given i .fits }))
+    let absorbs = c .before .before .before .before in (
+      refl,
+      c .before .before .squeeze .ensures .1
+          ∙ ap (squeezed n) (absorbs .absorb .ensures ∙ ap (λ (s : Sponge). absorbed s m) (absorbs .before .blank .ensures))
+          ∙ shake m n (record { at = λ i l. c .before .before .before .before .before .before .before .shared-slice-known .given i .fits }),
+    )
 
 pub maesikkong-shake256-spec : {M : Type 1} → statement M
 maesikkong-shake256-spec =

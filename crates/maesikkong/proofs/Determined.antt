@@ -1,0 +1,127 @@
+-- The contracts of the exported functions determine their numbers and what each output holds at exit. Assumes nothing.
+use mathlib.Core.Path.{sym, _∙_}
+use denote.Ref.{now}
+use Rattle.whole.specs.Determined.{Result, Output}
+use Rattle.maesikkong.proofs.key.maesikkong_make_key.Kinds as make-key-kinds
+use Rattle.maesikkong.proofs.key.maesikkong_make_key.Reads as make-key
+use Rattle.maesikkong.proofs.sign.maesikkong_sign.Kinds as sign-kinds
+use Rattle.maesikkong.proofs.sign.maesikkong_sign.Reads as sign
+use Rattle.maesikkong.proofs.key_records.maesikkong_write_public.Kinds as write-public-kinds
+use Rattle.maesikkong.proofs.key_records.maesikkong_write_public.Reads as write-public
+use Rattle.maesikkong.proofs.key_records.maesikkong_read_public.Kinds as read-public-kinds
+use Rattle.maesikkong.proofs.key_records.maesikkong_read_public.Reads as read-public
+use Rattle.maesikkong.proofs.key_records.maesikkong_write_secret.Kinds as write-secret-kinds
+use Rattle.maesikkong.proofs.key_records.maesikkong_write_secret.Reads as write-secret
+use Rattle.maesikkong.proofs.key_records.maesikkong_read_secret.Kinds as read-secret-kinds
+use Rattle.maesikkong.proofs.key_records.maesikkong_read_secret.Reads as read-secret
+use Rattle.maesikkong.proofs.signature_records.maesikkong_write_signature.Kinds as write-signature-kinds
+use Rattle.maesikkong.proofs.signature_records.maesikkong_write_signature.Reads as write-signature
+use Rattle.maesikkong.proofs.signature_records.maesikkong_read_signature.Kinds as read-signature-kinds
+use Rattle.maesikkong.proofs.signature_records.maesikkong_read_signature.Reads as read-signature
+use Rattle.maesikkong.proofs.streams.maesikkong_take_a.Kinds as take-a-kinds
+use Rattle.maesikkong.proofs.streams.maesikkong_take_a.Reads as take-a
+use Rattle.maesikkong.proofs.streams.maesikkong_take_y.Kinds as take-y-kinds
+use Rattle.maesikkong.proofs.streams.maesikkong_take_y.Reads as take-y
+use Rattle.maesikkong.proofs.streams.maesikkong_take_positions.Kinds as take-positions-kinds
+use Rattle.maesikkong.proofs.streams.maesikkong_take_positions.Reads as take-positions
+use Rattle.maesikkong.proofs.streams.maesikkong_shake256.Kinds as shake256-kinds
+use Rattle.maesikkong.proofs.streams.maesikkong_shake256.Reads as shake256
+
+pub make-key-number : Result 6 make-key-kinds.ps make-key-kinds.r make-key.Learnt
+make-key-number κs a x y e f p q = p .0 ∙ sym (q .0)
+
+pub make-key-public : Output 6 make-key-kinds.ps make-key-kinds.r make-key.Learnt (λ κs e. now (e .1 .1 .1 .1 .0))
+make-key-public κs a x y e f p q = p .1 .0 ∙ sym (q .1 .0)
+
+pub make-key-secret : Output 6 make-key-kinds.ps make-key-kinds.r make-key.Learnt (λ κs e. now (e .1 .1 .1 .1 .1 .0))
+make-key-secret κs a x y e f p q = p .1 .1 ∙ sym (q .1 .1)
+
+pub sign-number : Result 5 sign-kinds.ps sign-kinds.r sign.Learnt
+sign-number κs a x y e f p q = p .0 ∙ sym (q .0)
+
+pub sign-counter : Output 5 sign-kinds.ps sign-kinds.r sign.Learnt (λ κs e. now (e .1 .1 .1 .1 .1 .0))
+sign-counter κs a x y e f p q = p .1 .0 ∙ sym (q .1 .0)
+
+pub sign-signature : Output 5 sign-kinds.ps sign-kinds.r sign.Learnt (λ κs e. now (e .1 .1 .1 .1 .0))
+sign-signature κs a x y e f p q = p .1 .1 ∙ sym (q .1 .1)
+
+pub write-public-number : Result 3 write-public-kinds.ps write-public-kinds.r write-public.Learnt
+write-public-number κs a x y e f p q = p .0 ∙ sym (q .0)
+
+pub write-public-public : Output 3 write-public-kinds.ps write-public-kinds.r write-public.Learnt (λ κs e. now (e .1 .1 .0))
+write-public-public κs a x y e f p q = p .1 ∙ sym (q .1)
+
+pub read-public-number : Result 3 read-public-kinds.ps read-public-kinds.r read-public.Learnt
+read-public-number κs a x y e f p q = p .0 ∙ sym (q .0)
+
+pub read-public-t : Output 3 read-public-kinds.ps read-public-kinds.r read-public.Learnt (λ κs e. now (e .1 .0))
+read-public-t κs a x y e f p q = p .1 .0 ∙ sym (q .1 .0)
+
+pub read-public-seed-a : Output 3 read-public-kinds.ps read-public-kinds.r read-public.Learnt (λ κs e. now (e .1 .1 .0))
+read-public-seed-a κs a x y e f p q = p .1 .1 ∙ sym (q .1 .1)
+
+pub write-secret-number : Result 6 write-secret-kinds.ps write-secret-kinds.r write-secret.Learnt
+write-secret-number κs a x y e f p q = p .0 ∙ sym (q .0)
+
+pub write-secret-secret : Output 6 write-secret-kinds.ps write-secret-kinds.r write-secret.Learnt (λ κs e. now (e .1 .1 .1 .1 .1 .0))
+write-secret-secret κs a x y e f p q = p .1 ∙ sym (q .1)
+
+pub read-secret-number : Result 6 read-secret-kinds.ps read-secret-kinds.r read-secret.Learnt
+read-secret-number κs a x y e f p q = p .0 ∙ sym (q .0)
+
+pub read-secret-s : Output 6 read-secret-kinds.ps read-secret-kinds.r read-secret.Learnt (λ κs e. now (e .1 .0))
+read-secret-s κs a x y e f p q = p .1 .0 ∙ sym (q .1 .0)
+
+pub read-secret-e : Output 6 read-secret-kinds.ps read-secret-kinds.r read-secret.Learnt (λ κs e. now (e .1 .1 .0))
+read-secret-e κs a x y e f p q = p .1 .1 .0 ∙ sym (q .1 .1 .0)
+
+pub read-secret-seed-a : Output 6 read-secret-kinds.ps read-secret-kinds.r read-secret.Learnt (λ κs e. now (e .1 .1 .1 .0))
+read-secret-seed-a κs a x y e f p q = p .1 .1 .1 .0 ∙ sym (q .1 .1 .1 .0)
+
+pub read-secret-seed-y : Output 6 read-secret-kinds.ps read-secret-kinds.r read-secret.Learnt (λ κs e. now (e .1 .1 .1 .1 .0))
+read-secret-seed-y κs a x y e f p q = p .1 .1 .1 .1 .0 ∙ sym (q .1 .1 .1 .1 .0)
+
+pub read-secret-g : Output 6 read-secret-kinds.ps read-secret-kinds.r read-secret.Learnt (λ κs e. now (e .1 .1 .1 .1 .1 .0))
+read-secret-g κs a x y e f p q = p .1 .1 .1 .1 .1 ∙ sym (q .1 .1 .1 .1 .1)
+
+pub write-signature-number : Result 3 write-signature-kinds.ps write-signature-kinds.r write-signature.Learnt
+write-signature-number κs a x y e f p q = p .0 ∙ sym (q .0)
+
+pub write-signature-signature : Output 3 write-signature-kinds.ps write-signature-kinds.r write-signature.Learnt (λ κs e. now (e .1 .1 .0))
+write-signature-signature κs a x y e f p q = p .1 ∙ sym (q .1)
+
+pub read-signature-number : Result 3 read-signature-kinds.ps read-signature-kinds.r read-signature.Learnt
+read-signature-number κs a x y e f p q = p .0 ∙ sym (q .0)
+
+pub read-signature-z : Output 3 read-signature-kinds.ps read-signature-kinds.r read-signature.Learnt (λ κs e. now (e .1 .0))
+read-signature-z κs a x y e f p q = p .1 .0 ∙ sym (q .1 .0)
+
+pub read-signature-c : Output 3 read-signature-kinds.ps read-signature-kinds.r read-signature.Learnt (λ κs e. now (e .1 .1 .0))
+read-signature-c κs a x y e f p q = p .1 .1 ∙ sym (q .1 .1)
+
+pub take-a-number : Result 2 take-a-kinds.ps take-a-kinds.r take-a.Learnt
+take-a-number κs a x y e f p q = p .0 ∙ sym (q .0)
+
+pub take-a-out : Output 2 take-a-kinds.ps take-a-kinds.r take-a.Learnt (λ κs e. now (e .1 .0))
+take-a-out κs a x y e f p q = p .1 ∙ sym (q .1)
+
+pub take-y-number : Result 2 take-y-kinds.ps take-y-kinds.r take-y.Learnt
+take-y-number κs a x y e f p q = p .0 ∙ sym (q .0)
+
+pub take-y-out : Output 2 take-y-kinds.ps take-y-kinds.r take-y.Learnt (λ κs e. now (e .1 .0))
+take-y-out κs a x y e f p q = p .1 ∙ sym (q .1)
+
+pub take-positions-number : Result 3 take-positions-kinds.ps take-positions-kinds.r take-positions.Learnt
+take-positions-number κs a x y e f p q = p .0 ∙ sym (q .0)
+
+pub take-positions-positions : Output 3 take-positions-kinds.ps take-positions-kinds.r take-positions.Learnt (λ κs e. now (e .1 .0))
+take-positions-positions κs a x y e f p q = p .1 .0 ∙ sym (q .1 .0)
+
+pub take-positions-signs : Output 3 take-positions-kinds.ps take-positions-kinds.r take-positions.Learnt (λ κs e. now (e .1 .1 .0))
+take-positions-signs κs a x y e f p q = p .1 .1 ∙ sym (q .1 .1)
+
+pub shake256-number : Result 2 shake256-kinds.ps shake256-kinds.r shake256.Learnt
+shake256-number κs a x y e f p q = p .0 ∙ sym (q .0)
+
+pub shake256-out : Output 2 shake256-kinds.ps shake256-kinds.r shake256.Learnt (λ κs e. now (e .1 .0))
+shake256-out κs a x y e f p q = p .1 ∙ sym (q .1)
