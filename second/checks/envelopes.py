@@ -67,7 +67,8 @@ def refused(number):
     return number, 0, 0, 0
 
 
-def write_refusals(expect):
+def write_faults():
+    """Inputs of writing, and faults of them in the order of its tests."""
     made = sample()
     inputs = dict(team=made.team, roster=made.message, signature=made.signature,
                   envelope_len=len(made.envelope))
@@ -83,6 +84,11 @@ def write_refusals(expect):
            Fault("first z", 9, by("signature", lambda s: with_field(s, 2, 20, 0, 523734))),
            Fault("last z", 9,
                  by("signature", lambda s: with_field(s, 2, 20, 1023, -523734)))])
+    return inputs, faults
+
+
+def write_refusals(expect):
+    inputs, faults = write_faults()
     expect_faults(expect, "write envelope", inputs, faults,
                   lambda inputs: write_envelope(SET_I, **inputs),
                   lambda number: (number, None))
@@ -121,15 +127,21 @@ SIGNATURE_Z = [
     for at, value in ((0, 523734), (1023, -523734), (500, -524288))]
 
 
+def read_faults():
+    """The same of reading."""
+    return dict(envelope=sample().envelope), form_faults() + SIGNATURE_MARKS + SIGNATURE_Z
+
+
 def read_refusals(expect):
-    inputs = dict(envelope=sample().envelope)
-    expect_faults(expect, "read envelope", inputs,
-                  form_faults() + SIGNATURE_MARKS + SIGNATURE_Z,
+    inputs, faults = read_faults()
+    expect_faults(expect, "read envelope", inputs, faults,
                   lambda inputs: read_envelope(SET_I, **inputs), refused)
 
 
 def open_faults():
-    return (
+    """The same of opening."""
+    made = sample()
+    faults = (
         form_faults() + wrong_lengths("public") + other_marks("public", b"\x51\x11")
         + SIGNATURE_MARKS
         + [Fault("t = q", 5, by("public", lambda p: with_field(p, 2, 29, 0, SET_I.q))),
@@ -138,14 +150,14 @@ def open_faults():
         + [Fault("c'", 11, in_signature(lambda s: with_bit_flipped(s, 2593))),
            Fault("roster", 11, by("envelope", lambda e: with_bit_flipped(e, 6))),
            Fault("seed_a", 11, by("public", lambda p: with_bit_flipped(p, 14850)))])
+    return dict(public=made.public, envelope=made.envelope), faults
 
 
 def open_refusals(expect):
-    made = sample()
-    inputs = dict(public=made.public, envelope=made.envelope)
-    expect_faults(expect, "open envelope", inputs, open_faults(),
+    inputs, faults = open_faults()
+    expect_faults(expect, "open envelope", inputs, faults,
                   lambda inputs: open_envelope(SET_I, **inputs), refused)
-    expect("no public record", open_envelope(SET_I, b"", made.envelope), refused(1))
+    expect("no public record", open_envelope(SET_I, b"", sample().envelope), refused(1))
     expect("nothing at all", open_envelope(SET_I, b"", b""), refused(1))
 
 
@@ -167,10 +179,9 @@ def program(expect):
 
 def program_refusals(expect):
     """Every fault that does not move the envelope in the input."""
-    made, seen = sample(), set()
-    inputs = dict(public=made.public, envelope=made.envelope)
+    (inputs, faults), seen = open_faults(), set()
     moving = {fault.name for fault in wrong_lengths("public")}
-    for fault in open_faults():
+    for fault in faults:
         if fault.name in moving:
             continue
         damaged = changed(inputs, fault)

@@ -121,7 +121,8 @@ def byte_at(name, at, value):
     return by(name, lambda data: with_byte(data, at, value) if data else data)
 
 
-def key_refusals(expect):
+def key_faults():
+    """Inputs of key making, and faults of them in the order of its tests."""
     s, e = secrets(SET_I, random.Random(13))
     inputs = dict(s=s, e=e, seed_a=bytes(32), seed_y=bytes(32), public_len=14882,
                   secret_len=5226)
@@ -135,11 +136,17 @@ def key_refusals(expect):
                Fault("heavy s", 6, set_to("s", HEAVY)),
                Fault("heavy e_1", 7, put_stretch("e", 0, HEAVY)),
                Fault("heavy e_4", 7, put_stretch("e", 3072, HEAVY))]
+    return inputs, faults
+
+
+def key_refusals(expect):
+    inputs, faults = key_faults()
     expect_faults(expect, "make key", inputs, faults,
                   lambda inputs: make_key(SET_I, **inputs), lambda number: (number, None))
 
 
-def sign_refusals(expect):
+def sign_faults():
+    """The same of signing."""
     made = sample()
     inputs = dict(secret=made.secret, message=b"", r=made.r, budget=1024, signature_len=2594)
     faults = (
@@ -153,6 +160,11 @@ def sign_refusals(expect):
            Fault("heavy s", 6, put_stretch("secret", 2, HEAVY)),
            Fault("heavy e_1", 7, put_stretch("secret", 1026, HEAVY)),
            Fault("heavy e_4", 7, put_stretch("secret", 1026 + 3072, HEAVY))])
+    return inputs, faults
+
+
+def sign_refusals(expect):
+    inputs, faults = sign_faults()
     expect_faults(expect, "sign", inputs, faults, lambda inputs: sign(SET_I, **inputs),
                   lambda number: (number, 0, None))
 
@@ -173,13 +185,16 @@ def refusals_before_8(expect):
 
 
 def check_faults():
-    """Faults of checking, in its order, over inputs public, message, signature."""
+    """The same of checking."""
+    made = sample()
+    inputs = dict(public=made.public, message=made.message, signature=made.signature)
+
     def field(name, width, at, value):
         return by(name, lambda data: with_field(data, 2, width, at, value))
 
     def flip(name, at):
         return by(name, lambda data: with_bit_flipped(data, at))
-    return (
+    faults = (
         wrong_lengths("public") + wrong_lengths("signature")
         + other_marks("public", b"\x51\x11") + other_marks("signature", b"\x51\x13")
         + [Fault("long message", 3, set_to("message", bytes(32769))),
@@ -192,14 +207,14 @@ def check_faults():
            Fault("message", 11, by("message", lambda message: message + b"\0")),
            Fault("seed_a", 11, flip("public", 14881)),
            Fault("t", 11, flip("public", 6))])
+    return inputs, faults
 
 
 def check_refusals(expect):
-    made = sample()
-    inputs = dict(public=made.public, message=made.message, signature=made.signature)
-    expect_faults(expect, "check", inputs, check_faults(),
+    inputs, faults = check_faults()
+    expect_faults(expect, "check", inputs, faults,
                   lambda inputs: check(SET_I, **inputs), lambda number: number)
-    other = sample(seed=1)
+    made, other = sample(), sample(seed=1)
     expect("another key", check(SET_I, other.public, made.message, made.signature), 11)
     expect("another signature", check(SET_I, made.public, made.message, other.signature), 11)
 

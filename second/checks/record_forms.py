@@ -149,59 +149,83 @@ def put_in_list(name, at, value):
     return by(name, put)
 
 
-def public_refusals(expect):
-    inputs = random_public(random.Random(9))
-    lengths_wrong = (
-        [Fault("t short", 1, by("t", lambda t: t[:-1])),
-         Fault("t long", 1, by("t", lambda t: t + [0, 0]))]
-        + wrong_lengths("seed_a") + wrong_output_lengths("record_len"))
-    faults = lengths_wrong + [Fault("t = q", 5, put_in_list("t", 0, SET_I.q)),
-                              Fault("last t", 5, put_in_list("t", -1, 2**32 - 1))]
-    expect_faults(expect, "write public", inputs, faults, write(write_public), nothing)
-    inputs = dict(record=write_public(SET_I, **inputs)[1], t_len=4096, seed_a_len=32)
+# Inputs of each entry, and faults of them in the order of its tests.
+
+def write_public_faults():
+    faults = ([Fault("t short", 1, by("t", lambda t: t[:-1])),
+               Fault("t long", 1, by("t", lambda t: t + [0, 0]))]
+              + wrong_lengths("seed_a") + wrong_output_lengths("record_len")
+              + [Fault("t = q", 5, put_in_list("t", 0, SET_I.q)),
+                 Fault("last t", 5, put_in_list("t", -1, 2**32 - 1))])
+    return random_public(random.Random(9)), faults
+
+
+def read_public_faults():
+    record = write_public(SET_I, **random_public(random.Random(9)))[1]
     faults = (wrong_lengths("record") + wrong_output_lengths("t_len")
               + wrong_output_lengths("seed_a_len") + other_marks("record", b"\x51\x11")
               + [Fault("t = q", 5, by("record", lambda r: with_field(r, 2, 29, 0, SET_I.q))),
                  Fault("last t", 5,
                        by("record", lambda r: with_field(r, 2, 29, 4095, 2**29 - 1)))])
-    expect_faults(expect, "read public", inputs, faults, write(read_public), nothing)
+    return dict(record=record, t_len=4096, seed_a_len=32), faults
 
 
-def secret_refusals(expect):
-    inputs = random_secret(random.Random(10))
+def write_secret_faults():
     faults = []
     for name in ("s", "e", "seed_a", "seed_y", "g"):
         faults += wrong_lengths(name)
     faults += wrong_output_lengths("record_len")
     faults += [Fault("s byte", 5, by("s", lambda s: with_byte(s, 0, 0x80))),
                Fault("e byte", 5, by("e", lambda e: with_byte(e, -1, 0x80)))]
-    expect_faults(expect, "write secret", inputs, faults, write(write_secret), nothing)
-    inputs = dict(record=write_secret(SET_I, **inputs)[1], s_len=1024, e_len=4096,
-                  seed_a_len=32, seed_y_len=32, g_len=40)
+    return random_secret(random.Random(10)), faults
+
+
+def read_secret_faults():
+    record = write_secret(SET_I, **random_secret(random.Random(10)))[1]
     faults = wrong_lengths("record")
     for name in ("s_len", "e_len", "seed_a_len", "seed_y_len", "g_len"):
         faults += wrong_output_lengths(name)
     faults += other_marks("record", b"\x51\x12")
     faults += [Fault("s byte", 5, by("record", lambda r: with_byte(r, 2, 0x80))),
                Fault("e byte", 5, by("record", lambda r: with_byte(r, 5121, 0x80)))]
-    expect_faults(expect, "read secret", inputs, faults, write(read_secret), nothing)
+    return dict(record=record, s_len=1024, e_len=4096, seed_a_len=32, seed_y_len=32,
+                g_len=40), faults
 
 
-def signature_refusals(expect):
-    inputs = random_signature(random.Random(11))
+def write_signature_faults():
     faults = ([Fault("z short", 1, by("z", lambda z: z[:-1])),
                Fault("z long", 1, by("z", lambda z: z + [0, 0]))]
               + wrong_lengths("c") + wrong_output_lengths("record_len")
               + [Fault("first z", 9, put_in_list("z", 0, 523734)),
                  Fault("last z", 9, put_in_list("z", -1, -523734))])
-    expect_faults(expect, "write signature", inputs, faults, write(write_signature), nothing)
-    inputs = dict(record=write_signature(SET_I, **inputs)[1], z_len=1024, c_len=32)
+    return random_signature(random.Random(11)), faults
+
+
+def read_signature_faults():
+    record = write_signature(SET_I, **random_signature(random.Random(11)))[1]
     faults = (wrong_lengths("record") + wrong_output_lengths("z_len")
               + wrong_output_lengths("c_len") + other_marks("record", b"\x51\x13")
               + [Fault("first z", 9, by("record", lambda r: with_field(r, 2, 20, 0, 523734))),
                  Fault("last z", 9,
                        by("record", lambda r: with_field(r, 2, 20, 1023, -524288)))])
-    expect_faults(expect, "read signature", inputs, faults, write(read_signature), nothing)
+    return dict(record=record, z_len=1024, c_len=32), faults
+
+
+def public_refusals(expect):
+    expect_faults(expect, "write public", *write_public_faults(), write(write_public), nothing)
+    expect_faults(expect, "read public", *read_public_faults(), write(read_public), nothing)
+
+
+def secret_refusals(expect):
+    expect_faults(expect, "write secret", *write_secret_faults(), write(write_secret), nothing)
+    expect_faults(expect, "read secret", *read_secret_faults(), write(read_secret), nothing)
+
+
+def signature_refusals(expect):
+    expect_faults(expect, "write signature", *write_signature_faults(),
+                  write(write_signature), nothing)
+    expect_faults(expect, "read signature", *read_signature_faults(),
+                  write(read_signature), nothing)
 
 
 GROUPS = [("lengths and marks of records", lengths), ("round trips of records", round_trips),
