@@ -7,11 +7,14 @@ crates, so that the two can be compared. From the repository's root:
     python3 second roster       the roster program: standard input to one line
     python3 second vectors [DIR]    writes the vector programs' stdin and stdout below crates/, or DIR
     python3 second vectors --check  compares those files with what it would write
+    python3 second compare [--cases N] [--seed S]
+                                compares every entry of target/face/libmaesikkong.so with its own
 
 sets.py has the numbers of a set, answers.py the numbers that come back,
 sums.py the arithmetic, streams.py SHAKE256 and what is drawn from it,
 records.py, scheme.py and envelope.py the entries, program.py the line,
-vectors.py the vector programs' files. checks/ holds the assertions.
+vectors.py the vector programs' files. checks/ holds the assertions, compare/
+the comparison in bulk with the library that scripts/face builds.
 """
 
 import os
@@ -40,9 +43,15 @@ def vectors(*where):
     return programs.write(*where or (crates,))
 
 
+def compare(*options):
+    from compare.runs import run
+    return run(options)
+
+
 def main(arguments):
     commands = {("selfcheck", 0): selfcheck, ("roster", 0): roster,
-                ("vectors", 0): vectors, ("vectors", 1): vectors}
+                ("vectors", 0): vectors, ("vectors", 1): vectors,
+                ("compare", 0): compare, ("compare", 2): compare, ("compare", 4): compare}
     command = commands.get((arguments[0], len(arguments) - 1)) if arguments else None
     if command is None:
         sys.stderr.write(__doc__)
