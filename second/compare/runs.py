@@ -58,7 +58,7 @@ def outcome(library, entry, inputs, rng):
 
 
 def differences(entry, made, values):
-    """Which buffers hold what they should not. Inputs, and outputs on refusal, keep what they held."""
+    """Which buffers hold what they should not. All but outputs on success keep what they held."""
     found, values = [], iter(values)
     for parameter in entry.parameters:
         if parameter.name not in made:
