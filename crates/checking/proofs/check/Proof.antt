@@ -41,8 +41,10 @@ check-in-requires c κs =
 
 returns : tie.Need-returns
 returns c =
-    let numbers = c .before .before .before .before .before .before .before .before .before .before .before .before .before .before .before .before .before .before .before in
-    check-i (c .before .before .before .before .before .before .before .before .before .before .before .before .before .before .before .before .before .before .before .before .before .before .before .args .public .now) (c .before .before .before .before .before .before .before .before .before .before .before .before .before .before .before .before .before .before .before .before .before .before .before .args .message .now) (c .before .before .before .before .before .before .before .before .before .before .before .before .before .before .before .before .before .before .before .before .before .before .before .args .signature .now) (numbers .numbers .ensures) (c .before .before .before .before .before .before .before .before .before .check-in .ensures)
+    let called = c .before .before .before .before .before .before .before .before .before in
+    let numbers = called .before .before .before .before .before .before .before .before .before .before in
+    let start = numbers .before .before .before .before in
+    check-i (start .args .public .now) (start .args .message .now) (start .args .signature .now) (numbers .numbers .ensures) (called .check-in .ensures)
 
 pub check-spec : {M : Type 1} → statement M
 check-spec =

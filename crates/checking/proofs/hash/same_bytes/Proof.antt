@@ -1,5 +1,5 @@
 -- `checking::hash::same_bytes` meets its contract. The loop's invariant: what is left to compare decides. Assumes nothing.
-use Prim.Native.Nat.{_≤_, _-_}
+use Prim.Native.Nat.{_-_}
 use native.Mathlib.Omega.{arith}
 use mathlib.Core.Path.{_≡_, refl, sym, _∙_}
 use lib.ListN.{length, drop}
@@ -9,16 +9,16 @@ use Rattle.checking.proofs.hash.same_bytes.Statement.{statement}
 use Rattle.checking.proofs.hash.same_bytes.Tie as tie
 
 abbrev Inv-loop : tie.InvT-loop
-Inv-loop a b i₀ i = (i ≤ length a) × (sameBytes a b ≡ sameBytes (drop i a) (drop i b))
+Inv-loop a b at₀ at = sameBytes a b ≡ sameBytes (drop at a) (drop at b)
 
 abbrev μ-loop : tie.MeasureT-loop
-μ-loop a b i₀ i = length a - i
+μ-loop a b at₀ at = length a - at
 
 returns : tie.Need-returns Inv-loop μ-loop
 returns c = sym (same-unlike _ _ (c .if1 .taken))
 
 loop-holds : tie.Need-loop-holds Inv-loop μ-loop
-loop-holds c = (omega arith, refl)
+loop-holds c = refl
 
 shared-slice-read-if2 : tie.Need-shared-slice-read-if2 Inv-loop μ-loop
 shared-slice-read-if2 c = omega arith
@@ -28,24 +28,24 @@ shared-slice-read-if2-2 c = omega arith
 
 returns-2 : tie.Need-returns-2 Inv-loop μ-loop
 returns-2 c =
-    let at = c .before .before .before .before in
-    sym (at .loop .inv .1 ∙ same-differ _ _ (at .loop .i) (omega arith) (omega arith) (c .if2 .taken))
+    let turn = c .before .before .before .before in
+    sym (turn .loop .inv ∙ same-differ _ _ (turn .loop .at) (omega arith) (omega arith) (c .if2 .taken))
 
-add-i : tie.Need-add-i Inv-loop μ-loop
-add-i c = omega arith
+add-at : tie.Need-add-at Inv-loop μ-loop
+add-at c = omega arith
 
 loop-less : tie.Need-loop-less Inv-loop μ-loop
 loop-less c = omega arith
 
 loop-again : tie.Need-loop-again Inv-loop μ-loop
 loop-again c =
-    let at = c .before .before .before .before in
-    (omega arith, at .loop .inv .1 ∙ same-step _ _ (at .loop .i) (omega arith) (omega arith) (c .if2 .left))
+    let turn = c .before .before .before .before in
+    turn .loop .inv ∙ same-step _ _ (turn .loop .at) (omega arith) (omega arith) (c .if2 .left)
 
 returns-3 : tie.Need-returns-3 Inv-loop μ-loop
 returns-3 c =
-    let at = c .before in
-    sym (at .loop .inv .1 ∙ same-end _ _ (at .loop .i) (omega arith) (omega arith))
+    let turn = c .before in
+    sym (turn .loop .inv ∙ same-end _ _ (turn .loop .at) (omega arith) (omega arith))
 
 pub same-bytes-spec : {M : Type 1} → statement M
 same-bytes-spec =
@@ -58,7 +58,7 @@ same-bytes-spec =
     shared-slice-read-if2
     shared-slice-read-if2-2
     returns-2
-    add-i
+    add-at
     loop-less
     loop-again
     returns-3)
