@@ -1,24 +1,23 @@
 -- The high parts of w_1, w_2, .. absorbed one polynomial after another.
---     next-asks, w-asks, highs-asks      what the calls of one step ask
---     one-more                           the step
---     Reached, reached-none, reached-more, reached-all      the steps together
+--     w-asks, highs-asks                      what the calls of one step ask
+--     one-more                                the step
+--     reached-none, reached-more              the steps together
+--     Turn, turn-none, turn-reads, turn-asks, turn-more, turn-all      the loop over a public record's t_1..t_k
 -- Assumes nothing.
-use mathlib.Core.Path.{_≡_, sym, ap, ap₂, subst, _∙_}
+use mathlib.Core.Path.{_≡_, refl, sym, ap, ap₂, subst, _∙_}
 use mathlib.Core.Bool.{Bool, true, _&&_}
 use mathlib.Core.List.{List, [], _++_, map, map-map, map-append}
-use Prim.Native.Nat.{ℕ, _+_, _*_, _-_, _≤_, _<_, zero-le}
-use native.Mathlib.Nat.{mul-zero, le-antisymm}
+use Prim.Native.Nat.{ℕ, _+_, _*_, _≤_, _<_, zero-le}
+use native.Mathlib.Nat.{le-antisymm}
 use native.Mathlib.Numerals.{add-one}
 use native.Mathlib.Omega.{arith}
 use lib.IntN.{ℤ, pos}
-use lib.ListN.{length, take, drop}
-use lib.Seq.{drop-drop}
+use lib.ListN.{length, take}
 use Rattle.whole.specs.Below.{Below, below-more, below-take}
 use Rattle.whole.specs.Refusal.{every}
 use Rattle.whole.specs.RefusalLaws.{every-map, every-append}
 use Rattle.whole.specs.Table.{joined}
 use Rattle.whole.specs.Twos.{twos}
-use Rattle.shake.specs.declared.Sponge.{Sponge}
 use Rattle.shake.specs.Sponge.{blank, absorbed, squeezed}
 use Rattle.shake.specs.Pieces.{absorbed-absorbed}
 use Rattle.rounding.specs.Parts.{high}
@@ -33,10 +32,11 @@ use Rattle.sampling.specs.declared.drawn.DrawA.{DrawA}
 use Rattle.sampling.specs.Candidates.{candidates}
 use Rattle.sampling.specs.CandidatesLaws.{candidates-below}
 use Rattle.sampling.specs.ValuesLaws.{values-below}
-use Rattle.sampling.specs.DrawA.{valuesLeft, ValidA, AfterA, NextA}
+use Rattle.sampling.specs.DrawA.{valuesLeft, AfterA}
+use Rattle.sampling.specs.DrawALaws.{at-first, at-asks, at-next}
 use Rattle.records.specs.Layout.{polynomial}
 use Rattle.records.specs.Public.{tOf, allT, tInRange}
-use Rattle.records.specs.PublicLaws.{row-fits, tOf-length, allT-polynomial, polynomial-below, tInRange-below}
+use Rattle.records.specs.PublicLaws.{tOf-length, allT-polynomial, polynomial-below, tInRange-below}
 use Rattle.records.specs.PublicPlaces.{ReadsT}
 use Rattle.checking.specs.declared.hash.Highs.{Highs}
 use Rattle.checking.specs.Asks.{ForW, ForT, Places, ForEachT}
@@ -94,9 +94,7 @@ pub one-more : {set : Numbers} (before r : Highs) {t zr ps : List ℕ} {ss : Lis
     → r .state ≡ absorbed (before .state) bytes₁ → r .fits ≡ (before .fits && fits) → OneMore set before t zr ps ss r
 one-more {set} before r {t} {zr} {ps} {ss} {a₁} {w₁} drawn w-is fits-is bytes-are state-is and-is =
     record {
-      rest = drawn .rest;
-      valid = drawn .valid;
-      need-is = drawn .need-is;
+      drawn = record { written = refl; rest = drawn .rest; valid = drawn .valid; need-is = drawn .need-is };
       state-is = state-is ∙ ap (absorbed (before .state)) (bytes-are ∙ sym (map-map (twos 8) (λ x. high (set .q) (set .d) (pos x)) w₁) ∙ ap (λ l. map (twos 8) (highParts set l)) w-are);
       fits-is = and-is ∙ ap (λ b. before .fits && b) (fits-is ∙ sym (every-map fitsByte (λ x. high (set .q) (set .d) (pos x)) w₁) ∙ ap (λ l. every fitsByte (highParts set l)) w-are);
     }
@@ -111,25 +109,17 @@ module _ {set : Numbers} {seedA : List ℕ} {t : ℕ → List ℕ} {zr ps : List
   unfolding highsUpto joined every fresh
   reached-none b =
       record {
-        rest = b .draw-is .all ∙ ap (λ m. drop m (allA set seedA)) (sym (mul-zero (set .n)));
-        valid = b .draw-is .valid;
-        need-is = omega (arith, b .draw-is .need-is);
+        draw-is = at-first (b .draw-is);
         state-is = b .state-is ∙ sym (absorbed-absorbed blank (streamMark (set .digit) 6) []);
         fits-is = b .fits-is;
       }
 
   module _ {i : ℕ} {before : Highs} (reached : Reached set seedA t zr ps ss i before) where
-    -- the stream still has a_(i + 1)
-    pub still-needed : i < set .k → set .n ≤ before .draw .need
-    still-needed l = omega (arith, reached .need-is, row-fits (set .n) (set .k) i l)
-
     pub reached-more : {tᵢ : List ℕ} {r : Highs} → i < set .k → tᵢ ≡ t i → OneMore set before tᵢ zr ps ss r → Reached set seedA t zr ps ss (i + 1) r
     unfolding highsUpto joined
     reached-more {tᵢ} {r} l e more =
         record {
-          rest = more .rest ∙ ap (drop (set .n)) (reached .rest) ∙ drop-drop (set .n) (set .n * i) (allA set seedA) ∙ ap (λ m. drop m (allA set seedA)) next;
-          valid = more .valid;
-          need-is = omega (arith, more .need-is, reached .need-is, still-needed l);
+          draw-is = at-next (reached .draw-is) l (more .drawn);
           state-is =
               more .state-is ∙ ap₂ absorbed (reached .state-is) (ap (map (twos 8)) same)
               ∙ absorbed-absorbed (fresh (set .digit) 6) (map (twos 8) made) (map (twos 8) one)
@@ -147,13 +137,10 @@ module _ {set : Numbers} {seedA : List ℕ} {t : ℕ → List ℕ} {zr ps : List
         one = highParts set (wFrom set (polynomial (set .n) i (allA set seedA)) (t i) zr ps ss)
 
         same : highParts set (wFrom set (take (set .n) (valuesLeft set (before .draw))) tᵢ zr ps ss) ≡ one
-        same = ap₂ (λ a u. highParts set (wFrom set (take (set .n) a) u zr ps ss)) (reached .rest) e
+        same = ap₂ (λ a u. highParts set (wFrom set (take (set .n) a) u zr ps ss)) (reached .draw-is .left-is) e
 
         upto : highsUpto set (allA set seedA) t zr ps ss (i + 1) ≡ made ++ one
         upto = rw add-one
-
-        next : set .n * i + set .n ≡ set .n * (i + 1)
-        next = omega arith
 
 -- ---- the loop over a public record's t_1..t_k
 
@@ -181,8 +168,8 @@ module _ {set : Numbers} {seedA public zr ps : List ℕ} {ss : List ℤ} {t₀ a
       turn-asks =
           record {
             good = asked .good;
-            valid = turn .reached .valid;
-            needed = still-needed (turn .reached) l;
+            valid = turn .reached .draw-is .valid;
+            needed = at-asks (turn .reached .draw-is) {places = set .n} (asked .good) l refl .needed;
             t-is = record { long = ap length e ∙ tOf-length set public i; below = rw e (tOf-below set public (asked .t-inside) i l) };
             z-is = asked .z-is;
             c-is = asked .c-is;

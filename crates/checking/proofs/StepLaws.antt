@@ -1,12 +1,11 @@
 -- One step of checking: w_i from what the three polynomial operations give.
 -- Assumes nothing.
-use mathlib.Core.Path.{_≡_, refl, sym, ap, _∙_}
+use mathlib.Core.Path.{_≡_, sym, ap, _∙_}
 use mathlib.Core.List.{List}
 use Prim.Native.Nat.{ℕ, _<_}
 use native.Mathlib.Omega.{arith}
-use lib.IntN.{ℤ, pos, _-ℤ_}
-use lib.ListN.{length, getD}
-use Rattle.whole.specs.Below.{Below}
+use lib.IntN.{ℤ, _-ℤ_}
+use lib.ListN.{length}
 use Rattle.whole.specs.Residue.{residue, Same, same-sym, same-minus, residue-same, residue-eq}
 use Rattle.whole.specs.Table.{table-ext, getD-table}
 use Rattle.ring.specs.Product.{Poly, mul}
@@ -14,7 +13,6 @@ use Rattle.ring.specs.Lists.{naturals, residues, length-residues, residues-belo
 use Rattle.ring.specs.Sparse.{sparse}
 use Rattle.ring.specs.Asks.{Factors, SparseProduct, TwoResidues}
 use Rattle.sets.specs.declared.Numbers.{Numbers}
-use Rattle.sets.specs.Good.{Good}
 use Rattle.checking.specs.Asks.{ForW}
 use Rattle.checking.specs.Steps.{wFrom}
 

@@ -5,13 +5,13 @@
 --     tests-are               H of them is the definition's
 --     hash-asks, work-is      over the signature record
 -- Assumes nothing.
-use mathlib.Core.Path.{_≡_, refl, sym, ap, ap₂, subst, _∙_}
-use mathlib.Core.Bool.{Bool, true}
+use mathlib.Core.Path.{_≡_, refl, sym, ap, ap₂, _∙_}
+use mathlib.Core.Bool.{true}
 use mathlib.Core.List.{List, [], _∷_, map}
-use Prim.Native.Nat.{ℕ, _+_, _*_, _-_, _^_, _≤_, _<_}
+use Prim.Native.Nat.{ℕ, _+_, _*_, _-_, _<_}
 use native.Mathlib.Omega.{arith}
 use borrow.Author.Tests.{leb-true}
-use lib.IntN.{ℤ, pos, natAbs, _-ℤ_}
+use lib.IntN.{ℤ, pos, natAbs}
 use lib.ListN.{length, getD, take, drop, length-map}
 use Rattle.whole.specs.Below.{Below, below-cons, Within}
 use Rattle.whole.specs.Residue.{residue-lt, residue-eq, same-refl, same-minus, Same}
@@ -26,9 +26,8 @@ use Rattle.ring.specs.Product.{mul, mul-same}
 use Rattle.ring.specs.Lists.{naturals, integers, residues, length-residues, residues-below}
 use Rattle.sets.specs.declared.Numbers.{Numbers}
 use Rattle.sets.specs.Good.{Good}
-use Rattle.sets.specs.Marks.{fresh}
 use Rattle.sampling.specs.Positions.{Drawn, positionsOf, signsOf, polynomialOf}
-use Rattle.sampling.specs.Streams.{allA, aOf, encOf, challenge, messageDigest, keyDigest}
+use Rattle.sampling.specs.Streams.{aOf, encOf, challenge, messageDigest, keyDigest}
 use Rattle.sampling.specs.StreamsLaws.{shake-below, encOf-length, encOf-signed}
 use Rattle.sampling.specs.SpongeLaws.{challenge-squeezed}
 use Rattle.sampling.specs.DrawnAsks.{AreDrawn}
@@ -39,7 +38,7 @@ use Rattle.records.specs.SignatureLaws.{zOf-length}
 use Rattle.signing.specs.Attempt.{highsOf}
 use Rattle.checking.specs.declared.hash.Highs.{Highs}
 use Rattle.checking.specs.Check.{checkW, checkHighs, publicG}
-use Rattle.checking.specs.Asks.{Residues, Challenge, Places, ForEachT, ForResidues, ForHighs, ForTested}
+use Rattle.checking.specs.Asks.{ForEachT, ForResidues, ForHighs, ForTested}
 use Rattle.checking.specs.Steps.{wFrom, highParts, highsUpto, hashHighs, hashTests, workTests, Reached}
 use Rattle.checking.proofs.StepLaws.{residues-at}
 

@@ -3,15 +3,14 @@
 use mathlib.Core.Bool.{Bool, true, _&&_}
 use mathlib.Core.Path.{_≡_}
 use mathlib.Core.List.{List, [], _∷_, map}
-use Prim.Native.Nat.{ℕ, _+_, _*_, _-_}
+use Prim.Native.Nat.{ℕ}
 use lib.Dec.{eqb, leb}
 use lib.IntN.{ℤ, pos, _-ℤ_}
-use lib.ListN.{length, take, drop}
+use lib.ListN.{length, take}
 use Rattle.whole.specs.Table.{joined}
 use Rattle.whole.specs.Twos.{twos}
 use Rattle.whole.specs.Refusal.{Test, _orElse_, every, sameBytes}
-use Rattle.shake.specs.declared.Sponge.{Sponge}
-use Rattle.shake.specs.Sponge.{absorbed, squeezed}
+use Rattle.shake.specs.Sponge.{absorbed}
 use Rattle.rounding.specs.Parts.{high}
 use Rattle.rounding.specs.Tests.{fitsByte}
 use Rattle.ring.specs.Product.{mul}
@@ -22,7 +21,8 @@ use Rattle.sets.specs.Limits.{messageLimit}
 use Rattle.sets.specs.Marks.{fresh}
 use Rattle.sampling.specs.Streams.{allA, encOf, challenge, messageDigest}
 use Rattle.sampling.specs.Positions.{positionsOf, signsOf}
-use Rattle.sampling.specs.DrawA.{valuesLeft, ValidA, StartedA}
+use Rattle.sampling.specs.DrawA.{valuesLeft, StartedA, AfterA}
+use Rattle.sampling.specs.DrawALaws.{AtA}
 use Rattle.records.specs.Layout.{marked, polynomial, publicBytes, signatureBytes}
 use Rattle.records.specs.Public.{tOf, allT, seedAOf, tInRange}
 use Rattle.records.specs.Signature.{zOf, challengeOf, zInRange}
@@ -50,17 +50,13 @@ pub record Begun (set : Numbers) (seedA : List ℕ) (r : Highs) : Type 0 where
 
 -- one w more: a is the next of the stream, and its high parts are absorbed and tested
 pub record OneMore (set : Numbers) (before : Highs) (t zr ps : List ℕ) (ss : List ℤ) (r : Highs) : Type 0 where
-  pub rest : valuesLeft set (r .draw) ≡ drop (set .n) (valuesLeft set (before .draw))
-  pub valid : ValidA (r .draw)
-  pub need-is : r .draw .need ≡ before .draw .need - set .n
+  pub drawn : AfterA set (before .draw) (take (set .n) (valuesLeft set (before .draw))) (r .draw)
   pub state-is : r .state ≡ absorbed (before .state) (map (twos 8) (highParts set (wFrom set (take (set .n) (valuesLeft set (before .draw))) t zr ps ss)))
   pub fits-is : r .fits ≡ (before .fits && every fitsByte (highParts set (wFrom set (take (set .n) (valuesLeft set (before .draw))) t zr ps ss)))
 
 -- i of the w: the stream of seed_a gives a_(i + 1) next, and the high parts of w_1..w_i are absorbed and tested
 pub record Reached (set : Numbers) (seedA : List ℕ) (t : ℕ → List ℕ) (zr ps : List ℕ) (ss : List ℤ) (i : ℕ) (r : Highs) : Type 0 where
-  pub rest : valuesLeft set (r .draw) ≡ drop (set .n * i) (allA set seedA)
-  pub valid : ValidA (r .draw)
-  pub need-is : r .draw .need + set .n * i ≡ set .k * set .n
+  pub draw-is : AtA set seedA i (r .draw)
   pub state-is : r .state ≡ absorbed (fresh (set .digit) 6) (map (twos 8) (highsUpto set (allA set seedA) t zr ps ss i))
   pub fits-is : r .fits ≡ every fitsByte (highsUpto set (allA set seedA) t zr ps ss i)
 

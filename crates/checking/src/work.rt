@@ -5,7 +5,6 @@ use crate::hash::each_t;
 use crate::hash::judged;
 use sets::Numbers;
 ghost use mathlib.Core.Path.{_≡_};
-ghost use lib.ListN.{length};
 ghost use Rattle.whole.specs.Refusal.{answer, every};
 ghost use Rattle.rounding.specs.Tests.{fitsByte};
 ghost use Rattle.ring.specs.Lists.{integers, residues};

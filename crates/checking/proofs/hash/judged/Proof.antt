@@ -1,7 +1,7 @@
 -- `checking::hash::judged` meets its contract: the tests 10 and 11 in this order. Assumes nothing.
 use borrow.Author.Needs.{needs}
 use borrow.Author.Tests.{not-true, not-false}
-use mathlib.Core.Path.{sym, ap, _∙_}
+use mathlib.Core.Path.{sym, _∙_}
 use Rattle.checking.proofs.AnswerLaws.{hash-high, hash-differs, hash-accepts}
 use Rattle.checking.proofs.hash.judged.Statement.{statement}
 use Rattle.checking.proofs.hash.judged.Tie as tie

@@ -3,9 +3,6 @@ use borrow.Author.Needs.{needs}
 use borrow.Author.Tests.{not-true, not-false}
 use mathlib.Core.Path.{_≡_, sym, _∙_}
 use mathlib.Core.Bool.{true}
-use native.Mathlib.Omega.{arith}
-use Prim.Native.Nat.{_≤_}
-use Rattle.sets.specs.Limits.{messageLimit}
 use Rattle.records.specs.Public.{allT, tInRange}
 use Rattle.checking.proofs.AnswerLaws.{Lengths, Marks, range-asks, z-asks}
 use Rattle.checking.proofs.AnswerLaws.{input-length, input-mark, input-message, input-t, input-z, input-passes}
