@@ -7,18 +7,18 @@
 use mathlib.Core.Path.{_≡_, refl, sym, ap, ap₂, subst, _∙_}
 use mathlib.Core.Bool.{Bool, true, _&&_}
 use mathlib.Core.List.{List, [], _++_, map, map-map, map-append}
-use Prim.Native.Nat.{ℕ, _+_, _*_, _≤_, _<_, zero-le}
+use Prim.Native.Nat.{ℕ, _+_, _≤_, _<_, zero-le}
 use native.Mathlib.Nat.{le-antisymm}
 use native.Mathlib.Numerals.{add-one}
 use native.Mathlib.Omega.{arith}
 use lib.IntN.{ℤ, pos}
 use lib.ListN.{length, take}
-use Rattle.whole.specs.Below.{Below, below-more, below-take}
+use Rattle.whole.specs.Below.{Below, below-take}
 use Rattle.whole.specs.Refusal.{every}
 use Rattle.whole.specs.RefusalLaws.{every-map, every-append}
 use Rattle.whole.specs.Table.{joined}
 use Rattle.whole.specs.Twos.{twos}
-use Rattle.shake.specs.Sponge.{blank, absorbed, squeezed}
+use Rattle.shake.specs.Sponge.{blank, absorbed}
 use Rattle.shake.specs.Pieces.{absorbed-absorbed}
 use Rattle.rounding.specs.Parts.{high}
 use Rattle.rounding.specs.Tests.{fitsByte}
@@ -29,11 +29,8 @@ use Rattle.sets.specs.Good.{Good}
 use Rattle.sets.specs.Marks.{streamMark, fresh}
 use Rattle.sampling.specs.Streams.{allA}
 use Rattle.sampling.specs.declared.drawn.DrawA.{DrawA}
-use Rattle.sampling.specs.Candidates.{candidates}
-use Rattle.sampling.specs.CandidatesLaws.{candidates-below}
-use Rattle.sampling.specs.ValuesLaws.{values-below}
 use Rattle.sampling.specs.DrawA.{valuesLeft, AfterA}
-use Rattle.sampling.specs.DrawALaws.{at-first, at-asks, at-next}
+use Rattle.sampling.specs.DrawALaws.{left-below, at-first, at-asks, at-next}
 use Rattle.records.specs.Layout.{polynomial}
 use Rattle.records.specs.Public.{tOf, allT, tInRange}
 use Rattle.records.specs.PublicLaws.{tOf-length, allT-polynomial, polynomial-below, tInRange-below}
@@ -41,13 +38,6 @@ use Rattle.records.specs.PublicPlaces.{ReadsT}
 use Rattle.checking.specs.declared.hash.Highs.{Highs}
 use Rattle.checking.specs.Asks.{ForW, ForT, Places, ForEachT}
 use Rattle.checking.specs.Steps.{wFrom, highParts, highsUpto, Begun, OneMore, Reached}
-
--- what a stream still gives is below q
-left-below : (set : Numbers) → Good set → (d : DrawA) → Below (set .q) (valuesLeft set d)
-unfolding valuesLeft
-left-below set good d =
-    values-below (set .q) (d .need) (candidates 4 (set .«t_bits») (squeezed (4 * d .left) (d .sponge)))
-    (below-more _ (good .t-once) (candidates-below 4 (set .«t_bits») (squeezed (4 * d .left) (d .sponge))))
 
 pub wFrom-length : (set : Numbers) (a t zr ps : List ℕ) (ss : List ℤ) → length (wFrom set a t zr ps ss) ≡ set .n
 unfolding wFrom

@@ -6,19 +6,15 @@ use Prim.Native.Nat.{ℕ, _<_}
 use native.Mathlib.Omega.{arith}
 use lib.IntN.{ℤ, _-ℤ_}
 use lib.ListN.{length}
-use Rattle.whole.specs.Residue.{residue, Same, same-sym, same-minus, residue-same, residue-eq}
-use Rattle.whole.specs.Table.{table-ext, getD-table}
-use Rattle.ring.specs.Product.{Poly, mul}
-use Rattle.ring.specs.Lists.{naturals, residues, length-residues, residues-below}
+use Rattle.whole.specs.Residue.{Same, same-minus, residue-eq}
+use Rattle.whole.specs.Table.{table-ext}
+use Rattle.ring.specs.Product.{mul}
+use Rattle.ring.specs.Lists.{naturals, residues, length-residues, residues-at, residues-below}
 use Rattle.ring.specs.Sparse.{sparse}
 use Rattle.ring.specs.Asks.{Factors, SparseProduct, TwoResidues}
 use Rattle.sets.specs.declared.Numbers.{Numbers}
 use Rattle.checking.specs.Asks.{ForW}
 use Rattle.checking.specs.Steps.{wFrom}
-
--- a residue in place of a coefficient is congruent to it
-pub residues-at : (q n : ℕ) (f : Poly) (k : ℕ) → 0 < q → k < n → Same q (naturals (residues q n f) k) (f k)
-residues-at q n f k h l = rw (getD-table n k (λ j. residue q (f j)) 0 l) (same-sym (residue-same q (f k) h))
 
 module _ {set : Numbers} {a t zr ps : List ℕ} {ss : List ℤ} {w tc : List ℕ} (asked : ForW set a t zr ps ss w tc) where
   q-some : 0 < set .q

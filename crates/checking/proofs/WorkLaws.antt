@@ -23,7 +23,7 @@ use Rattle.shake.specs.Sponge.{absorbed, squeezed}
 use Rattle.rounding.specs.Tests.{fitsByte, zPasses}
 use Rattle.ring.specs.Asks.{Small}
 use Rattle.ring.specs.Product.{mul, mul-same}
-use Rattle.ring.specs.Lists.{naturals, integers, residues, length-residues, residues-below}
+use Rattle.ring.specs.Lists.{naturals, integers, residues, length-residues, residues-at, residues-below}
 use Rattle.sets.specs.declared.Numbers.{Numbers}
 use Rattle.sets.specs.Good.{Good}
 use Rattle.sampling.specs.Positions.{Drawn, positionsOf, signsOf, polynomialOf}
@@ -40,7 +40,6 @@ use Rattle.checking.specs.declared.hash.Highs.{Highs}
 use Rattle.checking.specs.Check.{checkW, checkHighs, publicG}
 use Rattle.checking.specs.Asks.{ForEachT, ForResidues, ForHighs, ForTested}
 use Rattle.checking.specs.Steps.{wFrom, highParts, highsUpto, hashHighs, hashTests, workTests, Reached}
-use Rattle.checking.proofs.StepLaws.{residues-at}
 
 q-some : (set : Numbers) → Good set → 0 < set .q
 q-some set good = omega (arith, good .q-large)
