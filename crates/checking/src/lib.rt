@@ -34,7 +34,7 @@ pub enum CheckAnswer {
 
 // Any good set: whether the signature record on the message passes under the public record. The places that are lent hold one
 // polynomial each, and h positions and signs.
-pub fn check_in(
+fn check_in(
     set: Numbers,
     public: &[u8],
     message: &[u8],
