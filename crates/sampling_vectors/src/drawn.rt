@@ -18,6 +18,14 @@ fn print_hash(sponge: Sponge) {
 
 // ---- a_1..a_k
 
+// Absorbs the values, by way of bytes.
+fn absorb_values(sponge: Sponge, values: &[u32], bytes: &mut [u8]) -> Sponge
+    requires { ⌜ length (now bytes) ≡ 4 * length (now values) ⌝ }
+{
+    cases::values::of_u32(values, bytes);
+    sponge.absorb(bytes)
+}
+
 // The sponge that has absorbed a_1..a_k: a takes one a_i at a time, and bytes its bytes.
 fn absorb_a(set: Numbers, seed_a: &[u8], a: &mut [u32], bytes: &mut [u8]) -> Sponge
     requires { ⌜ Good set ⌝ }
@@ -30,8 +38,7 @@ fn absorb_a(set: Numbers, seed_a: &[u8], a: &mut [u32], bytes: &mut [u8]) -> Spo
     while i < k {
         let after = sampling::drawn::next_a(set, stream, a);
         stream = after;
-        cases::values::of_u32(a, bytes);
-        let more = sponge.absorb(bytes);
+        let more = absorb_values(sponge, a, bytes);
         sponge = more;
         i += 1;
     }

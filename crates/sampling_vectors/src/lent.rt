@@ -116,16 +116,30 @@ fn places_of_signs() -> [i8; 2048]
     [-91; 2048]
 }
 
-// Writes positions and signs, by way of bytes.
-pub fn print_places(positions: &[u16], signs: &[i8], bytes: &mut [u8])
-    requires { ⌜ (2 * length (now positions) ≤ length (now bytes)) × (length (now signs) ≤ length (now bytes)) ⌝ }
+// Writes positions, by way of bytes.
+fn print_positions(positions: &[u16], bytes: &mut [u8])
+    requires { ⌜ 2 * length (now positions) ≤ length (now bytes) ⌝ }
 {
     let n = 2 * positions.len();
     cases::values::of_u16(positions, &mut bytes[..n]);
     cases::print_hex(&bytes[..n]);
-    let m = signs.len();
-    cases::values::of_i8(signs, &mut bytes[..m]);
-    cases::print_hex(&bytes[..m]);
+}
+
+// Writes signs, by way of bytes.
+fn print_signs(signs: &[i8], bytes: &mut [u8])
+    requires { ⌜ length (now signs) ≤ length (now bytes) ⌝ }
+{
+    let n = signs.len();
+    cases::values::of_i8(signs, &mut bytes[..n]);
+    cases::print_hex(&bytes[..n]);
+}
+
+// Writes positions and signs, by way of bytes.
+pub fn print_places(positions: &[u16], signs: &[i8], bytes: &mut [u8])
+    requires { ⌜ (2 * length (now positions) ≤ length (now bytes)) × (length (now signs) ≤ length (now bytes)) ⌝ }
+{
+    print_positions(positions, bytes);
+    print_signs(signs, bytes);
 }
 
 // Takes as many positions and signs as there are places, and writes the answer and them, by way of bytes.
