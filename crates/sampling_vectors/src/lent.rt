@@ -27,13 +27,7 @@ fn needed(given: &[u8], at: usize) -> usize
     ensures { λ r. ⌜ r ≤ 2048 ⌝ }
 {
     match cases::number_at(given, at) {
-        Number::Is { value, next: _ } => {
-            if value <= 2048 {
-                value
-            } else {
-                0
-            }
-        }
+        Number::Is { value, next: _ } => { if value <= 2048 { value } else { 0 } }
         Number::Nothing => 0,
     }
 }
@@ -161,12 +155,7 @@ fn need_positions(
     requires { ⌜ (need ≤ 2048) × (count ≤ 2048) ⌝ }
     requires { ⌜ (2048 ≡ length (now positions)) × ((2048 ≡ length (now signs)) × (65536 ≡ length (now bytes))) ⌝ }
 {
-    show_positions(
-        stream,
-        &mut positions[..need],
-        &mut signs[..count],
-        bytes,
-    );
+    show_positions(stream, &mut positions[..need], &mut signs[..count], bytes);
 }
 
 // What is given: the number of positions needed, the number of signs, and a stream.

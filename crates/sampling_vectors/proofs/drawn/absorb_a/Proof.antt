@@ -51,8 +51,7 @@ loop-again : tie.Need-loop-again Inv-loop μ-loop
 loop-again c =
     let absorbs = c .before .before in
     let drawn = absorbs .before .before .before .before .before in
-    let head = drawn .before .before .before in
-    (
+    let head = drawn .before .before .before in (
       at-next (head .loop .inv .0) (drawn .before .before .loop-test .taken) (drawn .next-a .ensures),
       (drawn-long drawn, absorbs .absorb-values .kept .1 .1 .0 ∙ head .loop .inv .1 .1),
     )
