@@ -2,7 +2,7 @@
 use cases::Number;
 use sampling::Taken;
 ghost use mathlib.Core.Path.{_≡_};
-ghost use Prim.Native.Nat.{_*_, _+_, _≤_};
+ghost use Prim.Native.Nat.{_*_, _≤_};
 ghost use lib.ListN.{length};
 ghost use Rattle.sampling.specs.Answers.{takenNumber};
 
@@ -34,6 +34,7 @@ fn needed(given: &[u8], at: usize) -> usize
 
 // ---- a
 
+// Values that no rule gives.
 fn places_a() -> [u32; 2048]
     ensures { λ r. ⌜ 2048 ≡ length r ⌝ }
 {
@@ -49,6 +50,7 @@ fn show_a(stream: &[u8], out: &mut [u32], bytes: &mut [u8])
     cases::print_hex(bytes);
 }
 
+// The same with the first places of out, as many as are needed.
 fn need_a(stream: &[u8], need: usize, out: &mut [u32], bytes: &mut [u8])
     requires { ⌜ (need ≤ 2048) × ((2048 ≡ length (now out)) × (65536 ≡ length (now bytes))) ⌝ }
 {
@@ -66,6 +68,7 @@ pub fn values_a(given: &[u8]) {
 
 // ---- y
 
+// Values that no rule gives.
 fn places_y() -> [i32; 2048]
     ensures { λ r. ⌜ 2048 ≡ length r ⌝ }
 {
@@ -81,6 +84,7 @@ fn show_y(stream: &[u8], out: &mut [i32], bytes: &mut [u8])
     cases::print_hex(bytes);
 }
 
+// The same with the first places of out, as many as are needed.
 fn need_y(stream: &[u8], need: usize, out: &mut [i32], bytes: &mut [u8])
     requires { ⌜ (need ≤ 2048) × ((2048 ≡ length (now out)) × (65536 ≡ length (now bytes))) ⌝ }
 {
@@ -98,12 +102,14 @@ pub fn values_y(given: &[u8]) {
 
 // ---- positions with signs
 
+// Positions that no rule gives.
 fn places() -> [u16; 2048]
     ensures { λ r. ⌜ 2048 ≡ length r ⌝ }
 {
     [0xA5A5; 2048]
 }
 
+// Signs that no rule gives.
 fn places_of_signs() -> [i8; 2048]
     ensures { λ r. ⌜ 2048 ≡ length r ⌝ }
 {
@@ -144,6 +150,7 @@ fn show_positions(stream: &[u8], positions: &mut [u16], signs: &mut [i8], bytes:
     print_places(positions, signs, bytes);
 }
 
+// The same with the first places of each output, as many as are needed of it.
 fn need_positions(
     stream: &[u8],
     need: usize,

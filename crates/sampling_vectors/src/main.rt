@@ -11,8 +11,9 @@
 //     K  packed t_1..t_k           g
 //     R  seed_y, r, G              rand
 //     H  G, g, high parts          c'
-// A number needed, of signs too, and the counter have two bytes, low first; at most 2,048 can be needed. What is written of an output
-// stands in it after the call: before the call each of its bytes is A5. What is no case ends the run.
+// A number needed, of signs too, and the counter have two bytes, low first; one above 2,048 is taken for 0 where it is needed. What is
+// written of an output over a lent stream stands in it after the call: before the call each of its bytes is A5. Any other letter writes an
+// empty line, and what is no letter with a piece ends the run.
 mod digests;
 mod drawn;
 mod lent;
