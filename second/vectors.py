@@ -10,11 +10,15 @@ shake_vectors: a case is a row of steps, and each step a letter with what it nee
     B                 squeezes 136 bytes             .   ends the case, with a line of hexadecimal
 
 A length has two bytes, low first.
+
+sampling_vectors has its cases in sampling_vectors.py.
 """
 
 import hashlib
 import os
 import random
+
+from sampling_vectors import sampling_vectors
 
 BLOCK = 136
 LONGEST = 4096   # of a squeeze
@@ -143,7 +147,7 @@ def shake_vectors():
     return stdin, stdout
 
 
-PROGRAMS = {"shake_vectors": shake_vectors}
+PROGRAMS = {"shake_vectors": shake_vectors, "sampling_vectors": sampling_vectors}
 
 
 def files():
