@@ -5,13 +5,14 @@ crates, so that the two can be compared. From the repository's root:
 
     python3 second selfcheck    runs its own assertions; the last line counts them
     python3 second roster       the roster program: standard input to one line
+    python3 second inputs PROGRAM   runs the proved roster program on its kept inputs and compares its lines
     python3 second vectors [DIR]    writes the vector programs' stdin and stdout below crates/, or DIR
     python3 second vectors --check  compares those files with what it would write
 
 sets.py has the numbers of a set, answers.py the numbers that come back,
 sums.py the arithmetic, streams.py SHAKE256 and what is drawn from it,
 records.py, scheme.py and envelope.py the entries, program.py the line,
-vectors.py the vector programs' files, with sampling_vectors.py. checks/ holds the
+vectors.py the vector programs' files, with sampling_vectors.py and roster_inputs.py. checks/ holds the
 assertions.
 """
 
@@ -19,6 +20,8 @@ import os
 import sys
 
 sys.dont_write_bytecode = True   # running leaves no files behind
+
+CRATES = os.path.join(os.path.dirname(os.path.dirname(os.path.abspath(__file__))), "crates")
 
 
 def selfcheck():
@@ -35,14 +38,18 @@ def roster():
 
 def vectors(*where):
     import vectors as programs
-    crates = os.path.join(os.path.dirname(os.path.dirname(os.path.abspath(__file__))), "crates")
     if where == ("--check",):
-        return programs.check(crates)
-    return programs.write(*where or (crates,))
+        return programs.check(CRATES)
+    return programs.write(*where or (CRATES,))
+
+
+def inputs(program):
+    import roster_inputs
+    return roster_inputs.run(program, os.path.join(CRATES, "roster", "tests"))
 
 
 def main(arguments):
-    commands = {("selfcheck", 0): selfcheck, ("roster", 0): roster,
+    commands = {("selfcheck", 0): selfcheck, ("roster", 0): roster, ("inputs", 1): inputs,
                 ("vectors", 0): vectors, ("vectors", 1): vectors}
     command = commands.get((arguments[0], len(arguments) - 1)) if arguments else None
     if command is None:

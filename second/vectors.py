@@ -11,13 +11,15 @@ shake_vectors: a case is a row of steps, and each step a letter with what it nee
 
 A length has two bytes, low first.
 
-sampling_vectors has its cases in sampling_vectors.py.
+sampling_vectors has its cases in sampling_vectors.py, and the inputs of the roster program are in
+roster_inputs.py.
 """
 
 import hashlib
 import os
 import random
 
+import roster_inputs
 from sampling_vectors import sampling_vectors
 
 BLOCK = 136
@@ -156,6 +158,7 @@ def files():
         stdin, stdout = make()
         yield os.path.join(name, "stdin"), stdin
         yield os.path.join(name, "stdout"), stdout
+    yield from roster_inputs.files()
 
 
 def write(crates):
