@@ -1,0 +1,5 @@
+pub mod Determined
+pub mod HeadLaws
+pub mod PartLaws
+pub mod ReadLaws
+pub mod WriteLaws
