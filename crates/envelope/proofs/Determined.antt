@@ -15,11 +15,15 @@ use Rattle.envelope.specs.declared.WriteEnvelope.{WriteEnvelope}
 use Rattle.envelope.specs.declared.WriteEnvelope.the-variants.{Done, Length, Mark, Message, Z}
 use Rattle.envelope.specs.declared.ReadEnvelope.{ReadEnvelope}
 use Rattle.envelope.specs.declared.ReadEnvelope.the-variants as reading
-use Rattle.envelope.specs.Answers.{writeEnvelopeNumber, readEnvelopeNumber, readEnvelopeTeam, readEnvelopeLength}
+use Rattle.envelope.specs.declared.Opened.{Opened}
+use Rattle.envelope.specs.declared.Opened.the-variants as opening
+use Rattle.envelope.specs.Answers.{writeEnvelopeNumber, readEnvelopeNumber, readEnvelopeTeam, readEnvelopeLength, openedNumber, openedTeam, openedLength}
 use Rattle.envelope.proofs.write.Kinds as write-kinds
 use Rattle.envelope.proofs.write.Reads as write
 use Rattle.envelope.proofs.read.Kinds as read-kinds
 use Rattle.envelope.proofs.read.Reads as read
+use Rattle.envelope.proofs.open.Kinds as open-kinds
+use Rattle.envelope.proofs.open.Reads as opens
 use Rattle.envelope.proofs.roster.Kinds as roster-kinds
 use Rattle.envelope.proofs.roster.Reads as roster
 use Rattle.envelope.proofs.signature.Kinds as signature-kinds
@@ -62,6 +66,31 @@ pub read-determined : Result 1 read-kinds.ps read-kinds.r read.Learnt
 read-determined κs a x y e f p q =
     sym (read-back x)
     ∙ rw (p .0 ∙ sym (q .0), p .1 .0 ∙ sym (q .1 .0), p .1 .1 ∙ sym (q .1 .1)) (read-back y)
+
+-- ---- opening
+
+abbrev openedWith : ℕ → ℕ → ℕ → Opened
+openedWith n team len =
+    cond (eqb n 0) (opening.Roster team len)
+    (cond (eqb n 1) opening.Length
+    (cond (eqb n 2) opening.Mark
+    (cond (eqb n 3) opening.Message
+    (cond (eqb n 5) opening.Coefficient (cond (eqb n 9) opening.Z (cond (eqb n 10) opening.High opening.Hash))))))
+
+opened-back : (x : Opened) → openedWith (openedNumber x) (openedTeam x) (openedLength x) ≡ x
+opened-back (opening.Roster team len) = refl
+opened-back opening.Length = refl
+opened-back opening.Mark = refl
+opened-back opening.Message = refl
+opened-back opening.Coefficient = refl
+opened-back opening.Z = refl
+opened-back opening.High = refl
+opened-back opening.Hash = refl
+
+pub open-determined : Result 2 open-kinds.ps open-kinds.r opens.Learnt
+open-determined κs a x y e f p q =
+    sym (opened-back x)
+    ∙ rw (p .0 ∙ sym (q .0), p .1 .0 ∙ sym (q .1 .0), p .1 .1 ∙ sym (q .1 .1)) (opened-back y)
 
 -- ---- the parts
 

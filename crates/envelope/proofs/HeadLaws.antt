@@ -2,7 +2,7 @@
 --     total-same, total-less                                     the total, by a difference
 --     head-short, head-mark, head-message, head-total, head-passes     the tests
 --     Answered                                                   the number, the team number and the roster's length that come back
---     head-refused, head-parts                                   a head that is refused, and one that is not
+--     head-before, head-refused, head-parts                      a head that is refused, and one that is not
 --     rest-answered                                              the tests that follow the head's decide
 -- Assumes nothing.
 use mathlib.Core.Path.{_≡_, refl, sym, ap, ap₂, _∙_}
@@ -128,16 +128,16 @@ abbrev pub HeadSays : Numbers → List ℕ → ReadEnvelope → Type 0
 HeadSays s envelope r = Answered (headTests s envelope) envelope (readEnvelopeNumber r) (readEnvelopeTeam r) (readEnvelopeLength r)
 
 module _ (s : Numbers) (envelope : List ℕ) (ts : List Test) where
-  before : (m : ℕ) → suc m ≡ answer (headTests s envelope) → Answered (headTests s envelope ++ ts) envelope (suc m) 0 0
-  before m e = answered-refused (headTests s envelope ++ ts) envelope m (answer-before m (headTests s envelope) ts (sym e))
+  pub head-before : (m : ℕ) → suc m ≡ answer (headTests s envelope) → Answered (headTests s envelope ++ ts) envelope (suc m) 0 0
+  head-before m e = answered-refused (headTests s envelope ++ ts) envelope m (answer-before m (headTests s envelope) ts (sym e))
 
   pub head-refused : (r : ReadEnvelope) → OneOf (1 ∷ 2 ∷ 3 ∷ 4 ∷ []) (tagOf the-type r) → HeadSays s envelope r
       → Answered (headTests s envelope ++ ts) envelope (readEnvelopeNumber r) (readEnvelopeTeam r) (readEnvelopeLength r)
   head-refused (Parts team len) h p = absurd (not-parts h refl)
-  head-refused Length h p = before 0 (p .0)
-  head-refused Mark h p = before 1 (p .0)
-  head-refused Message h p = before 2 (p .0)
-  head-refused Z h p = before 8 (p .0)
+  head-refused Length h p = head-before 0 (p .0)
+  head-refused Mark h p = head-before 1 (p .0)
+  head-refused Message h p = head-before 2 (p .0)
+  head-refused Z h p = head-before 8 (p .0)
 
 -- a head that passed, with its numbers
 pub record Headed (s : Numbers) (envelope : List ℕ) (team len : ℕ) : Type 0 where

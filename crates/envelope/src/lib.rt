@@ -3,6 +3,7 @@ mod head;
 mod parts;
 mod writing;
 
+use checking::CheckAnswer;
 use records::signature::SignatureRecord;
 use sets::Numbers;
 use sets::SetI;
@@ -14,8 +15,9 @@ ghost use Rattle.sets.specs.SetI.{setI};
 ghost use Rattle.records.specs.Layout.{stretch, signatureBytes};
 ghost use Rattle.records.specs.SignatureAnswers.{signatureRecordNumber};
 ghost use Rattle.records.specs.SignatureParts.{Room};
-ghost use Rattle.envelope.specs.Answers.{writeEnvelopeNumber, readEnvelopeNumber, readEnvelopeTeam, readEnvelopeLength};
-ghost use Rattle.envelope.specs.Envelope.{headBytes, envelopeOf, lengthOf, readTests, writeTests, teamAnswered};
+ghost use Rattle.checking.specs.Answers.{checkAnswerNumber};
+ghost use Rattle.envelope.specs.Answers.{writeEnvelopeNumber, readEnvelopeNumber, readEnvelopeTeam, readEnvelopeLength, openedNumber, openedTeam, openedLength};
+ghost use Rattle.envelope.specs.Envelope.{headBytes, envelopeOf, lengthOf, readTests, openTests, writeTests, teamAnswered};
 
 // What writing an envelope answers.
 pub enum WriteEnvelope {
@@ -27,7 +29,7 @@ pub enum WriteEnvelope {
     Mark,
     // 3: the roster is over 32,768 bytes
     Message,
-    // 9: some z is outside −(b − s) to b − s
+    // 9: some z is outside −(B − S) to B − S
     Z,
 }
 
@@ -41,8 +43,28 @@ pub enum ReadEnvelope {
     Mark,
     // 3: L is over 32,768
     Message,
-    // 9: some z is outside −(b − s) to b − s
+    // 9: some z is outside −(B − S) to B − S
     Z,
+}
+
+// What opening an envelope answers.
+pub enum Opened {
+    // 0: accepted, with the team number and the roster's length
+    Roster { team: u16, len: usize },
+    // 1: fewer than 6 bytes, the total is not the one named, or the public record's length is not
+    Length,
+    // 2: a mark is wrong
+    Mark,
+    // 3: L is over 32,768
+    Message,
+    // 5: a t coefficient is not from 0 to q − 1
+    Coefficient,
+    // 9: some z is outside −(B − S) to B − S
+    Z,
+    // 10: a high part does not fit a signed byte
+    High,
+    // 11: the hash differs
+    Hash,
 }
 
 // Writes an envelope, with every test first. scratch takes the bits of z.
@@ -134,4 +156,43 @@ pub fn signature(envelope: &[u8], len: usize) -> &[u8]
     ensures { λ r. ⌜ now r ≡ stretch (headBytes + len) (signatureBytes setI) (now (envelope .entry)) ⌝ }
 {
     parts::signature_in(SetI::numbers(), envelope, len)
+}
+
+// What opening answers, after checking: the team number and the roster's length where it accepts.
+fn opened_by(team: u16, len: usize, checked: CheckAnswer) -> Opened
+    ensures number { λ r. ⌜ openedNumber r ≡ checkAnswerNumber checked ⌝ }
+    ensures team { λ r. ⌜ openedTeam r ≡ after (checkAnswerNumber checked) team 0 ⌝ }
+    ensures len { λ r. ⌜ openedLength r ≡ after (checkAnswerNumber checked) len 0 ⌝ }
+{
+    match checked {
+        CheckAnswer::Accepted => Opened::Roster { team, len },
+        CheckAnswer::Length => Opened::Length,
+        CheckAnswer::Mark => Opened::Mark,
+        CheckAnswer::Message => Opened::Message,
+        CheckAnswer::Coefficient => Opened::Coefficient,
+        CheckAnswer::Z => Opened::Z,
+        CheckAnswer::High => Opened::High,
+        CheckAnswer::Hash => Opened::Hash,
+    }
+}
+
+// Set I: opens an envelope: the tests of its head, then checking its roster with the public record that is lent.
+pub fn open(public: &[u8], envelope: &[u8]) -> Opened
+    ensures number { λ r. ⌜ openedNumber r ≡ answer (openTests setI (now (public .entry)) (now (envelope .entry))) ⌝ }
+    ensures team { λ r. ⌜ openedTeam r ≡ teamAnswered (answer (openTests setI (now (public .entry)) (now (envelope .entry)))) (now (envelope .entry)) ⌝ }
+    ensures len { λ r. ⌜ openedLength r ≡ after (answer (openTests setI (now (public .entry)) (now (envelope .entry)))) (lengthOf (now (envelope .entry))) 0 ⌝ }
+{
+    let head = head::test_head(SetI::numbers(), envelope);
+    match head {
+        ReadEnvelope::Parts { team, len } => {
+            let message = roster(envelope, len);
+            let signed = signature(envelope, len);
+            let checked = checking::check(public, message, signed);
+            opened_by(team, len, checked)
+        }
+        ReadEnvelope::Length => Opened::Length,
+        ReadEnvelope::Mark => Opened::Mark,
+        ReadEnvelope::Message => Opened::Message,
+        ReadEnvelope::Z => Opened::Z,
+    }
 }
