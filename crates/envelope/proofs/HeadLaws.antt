@@ -1,20 +1,20 @@
 -- The tests of an envelope's head, what each of them makes of the answer, and what comes back once more tests follow them.
---     total-same, total-less                                     the total, by a difference
---     head-short, head-mark, head-message, head-total, head-passes     the tests
---     Answered                                                   the number, the team number and the roster's length that come back
---     head-before, head-refused, head-parts                      a head that is refused, and one that is not
---     rest-answered                                              the tests that follow the head's decide
+--     total-less, total-same                          the total, by a difference
+--     head-short, head-mark, .., head-passes          the tests
+--     Answered, answered-refused, answered-parts      the number, the team number and the roster's length that come back
+--     parts-done, parts-refused                       both numbers after an answer
+--     head-before, head-refused, head-parts           a head that is refused, and one that is not
+--     rest-answered                                   the tests that follow the head's decide
 -- Assumes nothing.
 use mathlib.Core.Path.{_≡_, refl, sym, ap, ap₂, _∙_}
 use mathlib.Core.Bool.{Bool, true, false, cond}
 use mathlib.Core.List.{List, [], _∷_, _++_}
-use mathlib.Core.Logic.{⊎-elim}
 use Prim.Native.Nat.{ℕ, suc, _+_, _*_, _-_, _≤_, _<_}
 use native.Mathlib.Nat.{mul-le-mul}
 use native.Mathlib.Omega.{arith}
-use lib.Dec.{eqb, leb}
+use lib.Dec.{eqb}
 use lib.ListN.{length}
-use types.Run.{OneOf}
+use types.Run.{OneOf, miss}
 use denote.Enum.Declared.{tagOf}
 use borrow.Author.Tests.{eq-eqb, ne-eqb, eqb-true, eqb-false, le-leb, lt-leb}
 use Rattle.whole.specs.Parts.{part-length}
@@ -119,10 +119,6 @@ answer-before m (x ∷ xs) ys e = go (answer-before m xs ys) (x .passes) e
     go rest true h = rest h
     go rest false h = h
 
-not-parts : {tag : ℕ} → OneOf (1 ∷ 2 ∷ 3 ∷ 4 ∷ []) tag → tag ≡ 0 → ⊥
-not-parts h e =
-    ⊎-elim (λ l. omega arith) (λ h₂. ⊎-elim (λ l. omega arith) (λ h₃. ⊎-elim (λ l. omega arith) (λ l. omega arith) h₃) h₂) h
-
 -- what a head's answer says
 abbrev pub HeadSays : Numbers → List ℕ → ReadEnvelope → Type 0
 HeadSays s envelope r = Answered (headTests s envelope) envelope (readEnvelopeNumber r) (readEnvelopeTeam r) (readEnvelopeLength r)
@@ -133,7 +129,7 @@ module _ (s : Numbers) (envelope : List ℕ) (ts : List Test) where
 
   pub head-refused : (r : ReadEnvelope) → OneOf (1 ∷ 2 ∷ 3 ∷ 4 ∷ []) (tagOf the-type r) → HeadSays s envelope r
       → Answered (headTests s envelope ++ ts) envelope (readEnvelopeNumber r) (readEnvelopeTeam r) (readEnvelopeLength r)
-  head-refused (Parts team len) h p = absurd (not-parts h refl)
+  head-refused (Parts team len) h p = absurd (miss (1 ∷ 2 ∷ 3 ∷ 4 ∷ []) 0 tt h)
   head-refused Length h p = head-before 0 (p .0)
   head-refused Mark h p = head-before 1 (p .0)
   head-refused Message h p = head-before 2 (p .0)

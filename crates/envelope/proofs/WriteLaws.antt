@@ -3,14 +3,13 @@
 use mathlib.Core.Path.{_≡_, refl, sym, ap, subst, _∙_}
 use mathlib.Core.Bool.{Bool, true, false, _&&_}
 use mathlib.Core.List.{List, [], _∷_, _++_}
-use mathlib.Core.Logic.{⊎-elim}
-use Prim.Native.Nat.{ℕ, _+_, _*_, _/_, _%_, _≤_, _<_}
+use Prim.Native.Nat.{ℕ, _+_, _/_, _%_, _≤_, _<_}
 use native.Mathlib.Omega.{arith}
-use lib.Dec.{eqb, leb}
+use lib.Dec.{eqb}
 use lib.ListN.{length, take, drop, length-append}
-use types.Run.{OneOf}
+use types.Run.{OneOf, miss}
 use denote.Enum.Declared.{tagOf}
-use borrow.Author.Tests.{eqb-true, le-leb, lt-leb}
+use borrow.Author.Tests.{le-leb, lt-leb}
 use Rattle.whole.specs.Refusal.{answer, after}
 use Rattle.whole.specs.RefusalLaws.{both-first, answer-pass, answer-fail, output-kept}
 use Rattle.whole.specs.Written.{Written, written-front, written-more, written-all}
@@ -58,14 +57,10 @@ module _ (s : Numbers) (roster signature : List ℕ) (envelope : ℕ) where
 
 -- ---- the envelope after the answer
 
-not-done : {tag : ℕ} → OneOf (1 ∷ 2 ∷ 3 ∷ 4 ∷ []) tag → tag ≡ 0 → ⊥
-not-done h e =
-    ⊎-elim (λ l. omega arith) (λ h₂. ⊎-elim (λ l. omega arith) (λ h₃. ⊎-elim (λ l. omega arith) (λ l. omega arith) h₃) h₂) h
-
 -- an answer that is one of the refusals leaves an output as it was
 pub kept : {A : Type 0} (r : WriteEnvelope) {number : ℕ} (new old : A) → OneOf (1 ∷ 2 ∷ 3 ∷ 4 ∷ []) (tagOf the-type r) → writeEnvelopeNumber r ≡ number
     → old ≡ after number new old
-kept Done new old h e = absurd (not-done h refl)
+kept Done new old h e = absurd (miss (1 ∷ 2 ∷ 3 ∷ 4 ∷ []) 0 tt h)
 kept Length new old h e = output-kept 0 new old e
 kept Mark new old h e = output-kept 1 new old e
 kept Message new old h e = output-kept 2 new old e
