@@ -1,4 +1,4 @@
-// Keccak-f[1600] and SHAKE256 in plain C, for a machine whose lowest byte comes first.
+// Keccak-f[1600], SHAKE256 and the expansion of a seed in plain C, for a machine whose lowest byte comes first.
 #include "plain.h"
 
 #include <string.h>
@@ -65,8 +65,8 @@ static void add_block(uint64_t lanes[25], const uint8_t block[RATE]) {
     }
 }
 
-void plain_shake(const uint8_t *message, size_t message_len, uint8_t *out, size_t out_len) {
-    uint64_t lanes[25] = {0};
+// The state that has absorbed the message and is ready to be squeezed.
+static void absorb(uint64_t lanes[25], const uint8_t *message, size_t message_len) {
     uint8_t last[RATE] = {0};
     for (; message_len >= RATE; message += RATE, message_len -= RATE) {
         add_block(lanes, message);
@@ -78,9 +78,44 @@ void plain_shake(const uint8_t *message, size_t message_len, uint8_t *out, size_
     last[RATE - 1] ^= 0x80;
     add_block(lanes, last);
     plain_permute(lanes);
+}
+
+void plain_shake(const uint8_t *message, size_t message_len, uint8_t *out, size_t out_len) {
+    uint64_t lanes[25] = {0};
+    absorb(lanes, message, message_len);
     for (; out_len > RATE; out += RATE, out_len -= RATE) {
         memcpy(out, lanes, RATE);
         plain_permute(lanes);
     }
     memcpy(out, lanes, out_len);
+}
+
+#define Q 343576577u
+#define SEED_MOST 64
+
+// Candidates of 4 bytes, low 29 bits, range q, a block at a time. One that is out of range is skipped while enough remain after it.
+void plain_expand(const uint8_t *seed, size_t seed_len, uint32_t a[A_VALUES]) {
+    uint64_t lanes[25] = {0};
+    uint8_t message[2 + SEED_MOST] = {0x53, 0x11}, block[RATE];
+    memcpy(message + 2, seed, seed_len);
+    absorb(lanes, message, 2 + seed_len);
+    size_t taken = 0, remaining = 4 * A_VALUES;
+    for (;;) {
+        memcpy(block, lanes, RATE);
+        for (int at = 0; at < RATE; at += 4) {
+            uint32_t candidate;
+            memcpy(&candidate, block + at, 4);
+            candidate &= (1u << 29) - 1;
+            remaining--;
+            if (candidate >= Q) {
+                if (remaining >= A_VALUES - taken)
+                    continue;
+                candidate -= Q;
+            }
+            a[taken++] = candidate;
+            if (taken == A_VALUES)
+                return;
+        }
+        plain_permute(lanes);
+    }
 }

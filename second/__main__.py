@@ -5,6 +5,7 @@ crates, so that the two can be compared. From the repository's root:
 
     python3 second selfcheck    runs its own assertions; the last line counts them
     python3 second roster       the roster program: standard input to one line
+    python3 second inputs PROGRAM   runs the proved roster program on its kept inputs and compares its lines
     python3 second vectors [DIR]    writes the vector programs' stdin and stdout below crates/, or DIR
     python3 second vectors --check  compares those files with what it would write
     python3 second compare [--cases N] [--seed S]
@@ -13,14 +14,16 @@ crates, so that the two can be compared. From the repository's root:
 sets.py has the numbers of a set, answers.py the numbers that come back,
 sums.py the arithmetic, streams.py SHAKE256 and what is drawn from it,
 records.py, scheme.py and envelope.py the entries, program.py the line,
-vectors.py the vector programs' files. checks/ holds the assertions, compare/
-the comparison in bulk with the library that scripts/face builds.
+vectors.py the vector programs' files, with sampling_vectors.py and roster_inputs.py. checks/ holds the
+assertions, compare/ the comparison in bulk with the library that scripts/face builds.
 """
 
 import os
 import sys
 
 sys.dont_write_bytecode = True   # running leaves no files behind
+
+CRATES = os.path.join(os.path.dirname(os.path.dirname(os.path.abspath(__file__))), "crates")
 
 
 def selfcheck():
@@ -37,10 +40,14 @@ def roster():
 
 def vectors(*where):
     import vectors as programs
-    crates = os.path.join(os.path.dirname(os.path.dirname(os.path.abspath(__file__))), "crates")
     if where == ("--check",):
-        return programs.check(crates)
-    return programs.write(*where or (crates,))
+        return programs.check(CRATES)
+    return programs.write(*where or (CRATES,))
+
+
+def inputs(program):
+    import roster_inputs
+    return roster_inputs.run(program, os.path.join(CRATES, "roster", "tests"))
 
 
 def compare(*options):
@@ -49,7 +56,7 @@ def compare(*options):
 
 
 def main(arguments):
-    commands = {("selfcheck", 0): selfcheck, ("roster", 0): roster,
+    commands = {("selfcheck", 0): selfcheck, ("roster", 0): roster, ("inputs", 1): inputs,
                 ("vectors", 0): vectors, ("vectors", 1): vectors,
                 ("compare", 0): compare, ("compare", 2): compare, ("compare", 4): compare}
     command = commands.get((arguments[0], len(arguments) - 1)) if arguments else None

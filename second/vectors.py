@@ -10,11 +10,17 @@ shake_vectors: a case is a row of steps, and each step a letter with what it nee
     B                 squeezes 136 bytes             .   ends the case, with a line of hexadecimal
 
 A length has two bytes, low first.
+
+sampling_vectors has its cases in sampling_vectors.py, and the inputs of the roster program are in
+roster_inputs.py.
 """
 
 import hashlib
 import os
 import random
+
+import roster_inputs
+from sampling_vectors import sampling_vectors
 
 BLOCK = 136
 LONGEST = 4096   # of a squeeze
@@ -143,7 +149,7 @@ def shake_vectors():
     return stdin, stdout
 
 
-PROGRAMS = {"shake_vectors": shake_vectors}
+PROGRAMS = {"shake_vectors": shake_vectors, "sampling_vectors": sampling_vectors}
 
 
 def files():
@@ -152,6 +158,7 @@ def files():
         stdin, stdout = make()
         yield os.path.join(name, "stdin"), stdin
         yield os.path.join(name, "stdout"), stdout
+    yield from roster_inputs.files()
 
 
 def write(crates):

@@ -1,2 +1,3 @@
 pub mod Input
 pub mod Hex
+pub mod Values

@@ -1,7 +1,9 @@
-// What the vector programs share: reading numbers and pieces off the input, and writing bytes in hexadecimal.
+// What the vector programs share: reading numbers and pieces off the input, values as bytes, and writing bytes in hexadecimal.
+pub mod values;
+
 ghost use mathlib.Core.Path.{_≡_};
 ghost use Prim.Native.Nat.{_+_, _*_, _≤_, _<_, _/_};
-ghost use lib.ListN.{length};
+ghost use lib.ListN.{length, drop};
 ghost use Rattle.cases.specs.Input.{byteAt, numberAt, pieceAt, partOf};
 ghost use Rattle.cases.specs.Hex.{digitOf, hexAt, hexOf};
 
@@ -97,6 +99,17 @@ pub fn part(s: &[u8], start: usize, len: usize) -> &[u8]
         } else {
             &s[..0]
         }
+    } else {
+        &s[..0]
+    }
+}
+
+// The bytes from start on, or none where that is past the end.
+pub fn rest(s: &[u8], start: usize) -> &[u8]
+    ensures { λ r. ⌜ now r ≡ drop start (now (s .entry)) ⌝ }
+{
+    if start <= s.len() {
+        &s[start..]
     } else {
         &s[..0]
     }

@@ -1,8 +1,8 @@
 -- Checking, Algorithm 3: z within B − S, then w_i = a_i z − t_i c, then H of the high parts against c'.
 -- Assumes nothing: these are definitions.
-use mathlib.Core.Bool.{Bool, _&&_}
+use mathlib.Core.Bool.{_&&_}
 use mathlib.Core.List.{List, [], _∷_}
-use Prim.Native.Nat.{ℕ, _+_, _*_}
+use Prim.Native.Nat.{ℕ, _*_}
 use lib.Dec.{eqb, leb}
 use lib.IntN.{ℤ, _-ℤ_}
 use lib.ListN.{length}

@@ -1,1 +1,4 @@
+pub mod Answers
 pub mod Check
+pub mod Steps
+pub mod Asks

@@ -1,11 +1,11 @@
 -- Laws of the envelope of a good set: what is written reads back (`envelope-team`, `envelope-length`, `envelope-roster`,
--- `envelope-signature`), what reads is what would be written (`envelope-again`), and an envelope around a signature that checking
--- accepts is opened (`envelope-opens`).
+-- `envelope-signature`), what reads is what would be written (`envelope-again`), an envelope around a signature that checking
+-- accepts is opened (`envelope-opens`), and the roster that comes back is the stretch of the length that does (`roster-answered`).
 -- Assumes nothing.
 use mathlib.Core.Path.{_≡_, refl, sym, ap, ap₂, _∙_}
 use mathlib.Core.Bool.{Bool, true, _&&_}
 use mathlib.Core.List.{List, [], _∷_, _++_}
-use Prim.Native.Nat.{ℕ, suc, _+_, _*_, _/_, _%_, _≤_, _<_}
+use Prim.Native.Nat.{ℕ, zero, suc, _+_, _*_, _/_, _%_, _≤_, _<_}
 use native.Mathlib.Omega.{arith}
 use lib.Dec.{eqb, leb}
 use lib.ListN.{length, getD, take, drop, length-append}
@@ -13,7 +13,7 @@ use lib.Seq.{take-all, take-at, drop-cons}
 use borrow.Author.Tests.{eq-eqb, eqb-true, le-leb, leb-true}
 use Rattle.whole.specs.Below.{Below}
 use Rattle.whole.specs.Parts.{part-length, part-second, part-last, parts-join}
-use Rattle.whole.specs.Refusal.{answer}
+use Rattle.whole.specs.Refusal.{answer, after}
 use Rattle.whole.specs.RefusalLaws.{answer-pass, answer-none, answer-first, answer-rest, both-first, both-second}
 use Rattle.sets.specs.declared.Numbers.{Numbers}
 use Rattle.sets.specs.Limits.{messageLimit}
@@ -22,7 +22,7 @@ use Rattle.records.specs.Layout.{mark, marked, stretch, signatureBytes}
 use Rattle.records.specs.PublicLaws.{marked-mark, marked-front}
 use Rattle.records.specs.Signature.{zOf, zInRange}
 use Rattle.checking.specs.Check.{checkTests}
-use Rattle.envelope.specs.Envelope.{headBytes, envelopeBytes, envelopeOf, numberAt, teamOf, lengthOf, rosterOf, signatureOf, headTests, readTests, openTests, writeTests}
+use Rattle.envelope.specs.Envelope.{headBytes, envelopeBytes, envelopeOf, numberAt, teamOf, lengthOf, rosterOf, signatureOf, headTests, readTests, openTests, writeTests, rosterAnswered}
 
 -- ---- what is written reads back
 
@@ -180,3 +180,11 @@ module _ (s : Numbers) (envelope : List ℕ) (bytes : Below 256 envelope) (passe
     where
       roster-length : length (stretch headBytes (lengthOf envelope) envelope) ≡ lengthOf envelope
       roster-length = part-length headBytes (lengthOf envelope) envelope (omega (arith, long))
+
+-- ---- what comes back
+
+-- the stretch of the length that comes back is the roster that comes back: on refusal both are empty
+pub roster-answered : (refusal : ℕ) (envelope : List ℕ) → stretch headBytes (after refusal (lengthOf envelope) 0) envelope ≡ rosterAnswered refusal envelope
+unfolding after rosterOf
+roster-answered zero envelope = refl
+roster-answered (suc m) envelope = refl

@@ -5,8 +5,8 @@ use mathlib.Core.Path.{_≡_}
 use Prim.Native.Nat.{ℕ, _<_}
 use lib.ListN.{length, getD}
 use lib.IntN.{ℤ, pos}
-use Rattle.whole.specs.Residue.{residue, residue-lt}
-use Rattle.whole.specs.Table.{table, length-table}
+use Rattle.whole.specs.Residue.{residue, residue-lt, residue-same, Same, same-sym}
+use Rattle.whole.specs.Table.{table, length-table, getD-table}
 use Rattle.whole.specs.Below.{Below, below-table}
 use Rattle.whole.specs.Twos.{signed}
 use Rattle.ring.specs.Product.{Poly}
@@ -32,3 +32,7 @@ length-residues q n f = length-table n (λ k. residue q (f k))
 
 pub residues-below : (q n : ℕ) (f : Poly) → 0 < q → Below q (residues q n f)
 residues-below q n f h = below-table q n (λ k. residue q (f k)) (λ k l. residue-lt q (f k) h)
+
+-- a residue in place of a coefficient is congruent to it
+pub residues-at : (q n : ℕ) (f : Poly) (k : ℕ) → 0 < q → k < n → Same q (naturals (residues q n f) k) (f k)
+residues-at q n f k h l = rw (getD-table n k (λ j. residue q (f j)) 0 l) (same-sym (residue-same q (f k) h))

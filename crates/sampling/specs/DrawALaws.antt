@@ -3,6 +3,7 @@
 --     few-values, few-candidates      the counts fit a word
 --     started-a                       the start of stream 1
 --     after-a                         the first n values that were left are written
+--     left-below                      what is left is below q
 --     at-first, at-next               between a_i and a_(i + 1), what is left is what a_(i + 1)..a_k have
 --     at-asks, at-written             the next a_i can be drawn there, and it is what is written
 -- Assumes nothing.
@@ -14,7 +15,7 @@ use native.Mathlib.Omega.{arith}
 use lib.ListN.{length, take, drop}
 use lib.Seq.{take-at, drop-at, drop-drop}
 use lib.Pow.{pow-mono}
-use Rattle.whole.specs.Below.{Below}
+use Rattle.whole.specs.Below.{Below, below-more}
 use Rattle.shake.specs.declared.Sponge.{Sponge}
 use Rattle.shake.specs.Sponge.{absorbed, squeezed}
 use Rattle.sets.specs.declared.Numbers.{Numbers}
@@ -22,7 +23,9 @@ use Rattle.sets.specs.Good.{Good}
 use Rattle.sets.specs.Marks.{fresh}
 use Rattle.sampling.specs.declared.drawn.DrawA.{DrawA}
 use Rattle.sampling.specs.Candidates.{candidates}
+use Rattle.sampling.specs.CandidatesLaws.{candidates-below}
 use Rattle.sampling.specs.Values.{values}
+use Rattle.sampling.specs.ValuesLaws.{values-below}
 use Rattle.sampling.specs.Streams.{allA, aOf}
 use Rattle.sampling.specs.SpongeLaws.{stream-squeezed}
 use Rattle.sampling.specs.DrawA.{valuesLeft, ValidA, StartedA, NextA, AfterA}
@@ -73,6 +76,13 @@ after-a s d out r e long h f =
   where
     rest : List ℕ
     rest = values (s .q) (r .need) (candidates 4 (s .«t_bits») (squeezed (4 * r .left) (r .sponge)))
+
+-- what a stream still gives is below q
+pub left-below : (s : Numbers) → Good s → (d : DrawA) → Below (s .q) (valuesLeft s d)
+unfolding valuesLeft
+left-below s g d =
+    values-below (s .q) (d .need) (candidates 4 (s .«t_bits») (squeezed (4 * d .left) (d .sponge)))
+    (below-more _ (g .t-once) (candidates-below 4 (s .«t_bits») (squeezed (4 * d .left) (d .sponge))))
 
 -- ---- between a_i and a_(i + 1)
 

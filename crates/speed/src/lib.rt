@@ -1,8 +1,12 @@
-// What the bench calls from C: the permutation, and SHAKE256.
+// What the bench calls from C: the permutation, SHAKE256, and a_1..a_k of a seed.
+use sets::Numbers;
+use sets::SetI;
 ghost use mathlib.Core.Path.{_≡_};
 ghost use lib.ListN.{length};
 ghost use Rattle.shake.specs.Shake256.{shake256};
+ghost use Rattle.sampling.specs.Streams.{allA};
 ghost use Rattle.speed.specs.Lanes.{permutedLanes};
+ghost use Rattle.speed.specs.Row.{Row, expanded};
 
 // Copies from into to.
 fn copy(from: &[u64], to: &mut [u64])
@@ -35,4 +39,32 @@ pub extern "C" fn speed_shake(message: &[u8], out: &mut [u8])
     ensures { λ _. ⌜ now (out .exit) ≡ shake256 (now (message .entry)) (length (now (out .entry))) ⌝ }
 {
     shake::Sponge::blank().absorb(message).squeeze(out);
+}
+
+// a_1..a_k of the seed in a row, into out.
+fn expand(set: Numbers, seed: &[u8], out: &mut [u32])
+    requires { ⌜ Row set (length (now out)) ⌝ }
+    ensures { λ _. ⌜ now (out .exit) ≡ allA set (now (seed .entry)) ⌝ }
+{
+    let n = set.n;
+    let k = set.k;
+    let mut stream = sampling::drawn::start_a(set, seed);
+    let mut i = 0;
+    while i < k {
+        let start = n * i;
+        let end = start + n;
+        let after = sampling::drawn::next_a(set, stream, &mut out[start..end]);
+        stream = after;
+        i += 1;
+    }
+}
+
+// a_1..a_k of the seed for set I in a row, into out. Nothing is done where out has not a place for each value.
+#[no_mangle]
+pub extern "C" fn speed_expand(seed: &[u8], out: &mut [u32])
+    ensures { λ _. ⌜ now (out .exit) ≡ expanded (now (seed .entry)) (now (out .entry)) ⌝ }
+{
+    if out.len() == SetI::K * SetI::N {
+        expand(SetI::numbers(), seed, out);
+    }
 }

@@ -1,0 +1,10 @@
+-- The contract of `check` determines its answer. It has no output.
+-- Assumes nothing.
+use mathlib.Core.Path.{sym, _∙_}
+use Rattle.whole.specs.Determined.{Result}
+use Rattle.checking.specs.Answers.{answer-one}
+use Rattle.checking.proofs.check.Kinds as check-kinds
+use Rattle.checking.proofs.check.Reads as check
+
+pub check-determined : Result 3 check-kinds.ps check-kinds.r check.Learnt
+check-determined κs a x y e f p q = answer-one x y (p ∙ sym q)

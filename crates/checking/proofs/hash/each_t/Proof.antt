@@ -1,0 +1,82 @@
+-- `checking::hash::each_t` meets its contract. The loop's invariant: the high parts of w_1..w_i are absorbed and tested, and every
+-- place has its length. Assumes nothing.
+use mathlib.Core.Path.{sym, _∙_}
+use Prim.Native.Nat.{_-_}
+use native.Mathlib.Omega.{arith}
+use Rattle.checking.proofs.HashLaws.{Turn, turn-none, turn-reads, turn-asks, turn-more, turn-all}
+use Rattle.checking.proofs.hash.each_t.Statement.{statement}
+use Rattle.checking.proofs.hash.each_t.Tie as tie
+
+abbrev Inv-loop : tie.InvT-loop
+Inv-loop set seed-a public zr positions signs t₀ a₀ w₀ tc₀ bytes₀ k highs₀ i₀ t a w tc bytes highs i =
+    Turn set seed-a public zr positions signs t a w tc bytes highs i
+
+abbrev μ-loop : tie.MeasureT-loop
+μ-loop set seed-a public zr positions signs t₀ a₀ w₀ tc₀ bytes₀ k highs₀ i₀ t a w tc bytes highs i = k - i
+
+no-highs-requires : tie.Need-no-highs-requires Inv-loop μ-loop
+no-highs-requires c κs = c .before .before .before .before .before .before .before .before .before .pre .good
+
+loop-holds : tie.Need-loop-holds Inv-loop μ-loop
+loop-holds c = turn-none (c .before .before .before .before .before .before .before .before .before .before .pre) (c .no-highs .ensures)
+
+unpack-t-requires : tie.Need-unpack-t-requires Inv-loop μ-loop
+unpack-t-requires c κs = turn-reads (c .before .before .before .before .before .before .before .before .before .before .before .before .before .pre) (c .before .before .loop .inv) (c .before .loop-test .taken)
+
+one-t-requires : tie.Need-one-t-requires Inv-loop μ-loop
+one-t-requires c κs =
+    let turn = c .before .before .before .before .before .before .before .before .before in
+    turn-asks (turn .before .before .before .before .before .before .before .before .before .before .before .before .pre) (turn .before .loop .inv) (turn .loop-test .taken) (c .before .before .before .before .before .before .before .unpack-t .ensures)
+
+add-i : tie.Need-add-i Inv-loop μ-loop
+add-i c =
+    let turn = c .before .before .before .before .before .before .before .before .before .before .before .before .before .before .before .before .before .before in
+    omega (arith, turn .loop-test .taken, turn .before .before .before .before .before .before .before .before .before .before .before .before .pre .good .k-few)
+
+loop-less : tie.Need-loop-less Inv-loop μ-loop
+loop-less c = omega (arith, c .before .before .before .before .before .before .before .before .before .before .before .before .before .before .before .before .before .before .loop-test .taken)
+
+loop-again : tie.Need-loop-again Inv-loop μ-loop
+loop-again c =
+    let made = c .before .before .before .before .before .before .before .before in
+    let turn = made .before .before .before .before .before .before .before .before .before .before in
+    turn-more (turn .before .before .before .before .before .before .before .before .before .before .before .before .pre) (turn .before .loop .inv) (turn .loop-test .taken) (made .before .before .before .before .before .before .before .before .unpack-t .ensures) (made .one-t .ensures)
+    (made .one-t .kept .1 .1 .1 .1 .1 .1 .0) (made .one-t .kept .1 .1 .1 .1 .1 .1 .1 .0) (made .one-t .kept .1 .1 .1 .1 .1 .1 .1 .1 .0) (made .one-t .kept .1 .1 .1 .1 .1 .1 .1 .1 .1 .0)
+
+same-length : tie.Need-same-length Inv-loop μ-loop
+same-length c = c .before .loop .inv .t-long ∙ sym (c .before .before .before .before .before .before .before .before .before .before .before .before .pre .t-long)
+
+same-length-2 : tie.Need-same-length-2 Inv-loop μ-loop
+same-length-2 c = c .before .loop .inv .places .a-long ∙ sym (c .before .before .before .before .before .before .before .before .before .before .before .before .pre .places .a-long)
+
+same-length-3 : tie.Need-same-length-3 Inv-loop μ-loop
+same-length-3 c = c .before .loop .inv .places .w-long ∙ sym (c .before .before .before .before .before .before .before .before .before .before .before .before .pre .places .w-long)
+
+same-length-4 : tie.Need-same-length-4 Inv-loop μ-loop
+same-length-4 c = c .before .loop .inv .places .tc-long ∙ sym (c .before .before .before .before .before .before .before .before .before .before .before .before .pre .places .tc-long)
+
+same-length-5 : tie.Need-same-length-5 Inv-loop μ-loop
+same-length-5 c = c .before .loop .inv .places .bytes-long ∙ sym (c .before .before .before .before .before .before .before .before .before .before .before .before .pre .places .bytes-long)
+
+returns : tie.Need-returns Inv-loop μ-loop
+returns c = turn-all (c .before .loop .inv) (c .loop-test .left)
+
+pub each-t-spec : {M : Type 1} → statement M
+each-t-spec =
+    tie.close
+    (tie.spec
+    Inv-loop
+    μ-loop
+    no-highs-requires
+    loop-holds
+    unpack-t-requires
+    one-t-requires
+    add-i
+    loop-less
+    loop-again
+    same-length
+    same-length-2
+    same-length-3
+    same-length-4
+    same-length-5
+    returns)

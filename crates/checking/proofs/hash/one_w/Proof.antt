@@ -1,0 +1,28 @@
+-- `checking::hash::one_w` meets its contract: the product, the sparse product and the difference, each modulo q. Assumes nothing.
+use borrow.Author.Needs.{needs}
+use Rattle.checking.proofs.StepLaws.{product-asks, sparse-asks, subtract-asks, difference-is}
+use Rattle.checking.proofs.hash.one_w.Statement.{statement}
+use Rattle.checking.proofs.hash.one_w.Tie as tie
+
+multiply-requires : tie.Need-multiply-requires
+multiply-requires c κs = product-asks (c .before .before .before .before .before .before .before .pre)
+
+times-requires : tie.Need-times-requires
+times-requires c κs = sparse-asks (c .before .before .before .before .before .before .before .before .before .before .before .pre)
+
+subtract-requires : tie.Need-subtract-requires
+subtract-requires c κs = subtract-asks (c .before .before .before .before .before .before .before .before .before .before .before .before .before .before .before .before .pre) (c .before .before .before .before .before .before .before .before .multiply .ensures) (c .before .before .before .before .times .ensures)
+
+same-length : tie.Need-same-length
+same-length c = search needs
+
+same-length-2 : tie.Need-same-length-2
+same-length-2 c = search needs
+
+returns : tie.Need-returns
+returns c = difference-is (c .before .before .before .before .before .before .before .before .before .before .before .before .before .before .before .before .before .before .before .pre) (c .before .before .before .before .before .before .before .before .before .before .before .multiply .ensures) (c .before .before .before .before .before .before .before .times .ensures) (c .before .before .subtract .ensures)
+
+pub one-w-spec : {M : Type 1} → statement M
+one-w-spec =
+    tie.close
+    (tie.spec multiply-requires times-requires subtract-requires same-length same-length-2 returns)

@@ -1,0 +1,98 @@
+-- What the program answers for its whole input, a public record and then an envelope; and the law that it need not hold the whole of a
+-- longer input (`held-decides`): the front of it that is longer than a public record and any envelope is answered as the whole is.
+-- Assumes nothing.
+use mathlib.Core.Path.{_≡_, refl, sym, ap, ap₂, _∙_}
+use mathlib.Core.Bool.{Bool, true, false, cond, _&&_}
+use mathlib.Core.Logic.{⊎-elim}
+use mathlib.Core.List.{List, [], _∷_, _++_}
+use Prim.Native.Nat.{ℕ, _+_, _-_, _≤_, _<_}
+use native.Mathlib.Omega.{arith}
+use lib.Dec.{eqb, leb}
+use lib.ListN.{length, getD, take, drop, length-take, length-drop}
+use lib.Seq.{getD-take, take-take, take-all, take-add, drop-at, length-take-le}
+use borrow.Author.Tests.{le-leb, leb-true, ne-eqb}
+use Rattle.whole.specs.Int.{lt-or-le}
+use Rattle.whole.specs.Refusal.{Test, _orElse_, answer}
+use Rattle.whole.specs.RefusalLaws.{answer-pass}
+use Rattle.sets.specs.declared.Numbers.{Numbers}
+use Rattle.sets.specs.Limits.{messageLimit}
+use Rattle.sets.specs.SetI.{setI}
+use Rattle.records.specs.Layout.{marked, publicBytes, signatureBytes}
+use Rattle.envelope.specs.Envelope.{headBytes, envelopeBytes, lengthOf, headTests, openTests}
+
+unfoldable pub programTests : List ℕ → List Test
+programTests input =
+    (leb (publicBytes setI) (length input) orElse 1) ∷ openTests setI (take (publicBytes setI) input) (drop (publicBytes setI) input)
+
+-- what follows the public record
+abbrev pub envelopePart : List ℕ → List ℕ
+envelopePart input = drop (publicBytes setI) input
+
+-- ---- a longer input
+
+-- what three tests decide, where none of those after them can pass
+abbrev decided : Bool → Bool → Bool → ℕ
+decided a b c = cond a (cond b (cond c 1 3) 2) 1
+
+-- four tests, of which the last cannot pass where the third does
+stops : (a b c d : Bool) (rest : List Test) → (c ≡ true → d ≡ false)
+    → answer ((a orElse 1) ∷ (b orElse 2) ∷ (c orElse 3) ∷ (d orElse 1) ∷ rest) ≡ decided a b c
+unfolding answer
+stops a b true d rest h = rw (h refl)
+stops a b false d rest h = refl
+
+module _ (s : Numbers) (envelope : List ℕ) (m : ℕ) (more : envelopeBytes s messageLimit < m) (long : m ≤ length envelope) where
+  abbrev front : List ℕ
+  front = take m envelope
+
+  front-long : length front ≡ m
+  front-long = omega (arith, length-take m envelope)
+
+  same-mark : marked s 4 front ≡ marked s 4 envelope
+  unfolding marked
+  same-mark = rw (getD-take m envelope 0 0 (omega arith), getD-take m envelope 1 0 (omega arith))
+
+  same-length : lengthOf front ≡ lengthOf envelope
+  unfolding lengthOf
+  same-length = rw (getD-take m envelope 4 0 (omega arith), getD-take m envelope 5 0 (omega arith))
+
+  -- no envelope is so long
+  too-long : (xs : List ℕ) → m ≤ length xs → leb (lengthOf xs) messageLimit ≡ true → eqb (length xs) (envelopeBytes s (lengthOf xs)) ≡ false
+  too-long xs l e = ne-eqb (length xs) (envelopeBytes s (lengthOf xs)) (λ x. absurd (omega (arith, x, leb-true (lengthOf xs) messageLimit e)))
+
+  -- the front of an envelope that is longer than any is refused as the envelope is
+  pub cut-opens : (public : List ℕ) → answer (openTests s public front) ≡ answer (openTests s public envelope)
+  unfolding openTests headTests
+  cut-opens public =
+      stops (leb headBytes (length front)) (marked s 4 front) (leb (lengthOf front) messageLimit) (eqb (length front) (envelopeBytes s (lengthOf front))) _
+      (too-long front (omega (arith, front-long)))
+      ∙ same
+      ∙ sym
+      (stops (leb headBytes (length envelope)) (marked s 4 envelope) (leb (lengthOf envelope) messageLimit) (eqb (length envelope) (envelopeBytes s (lengthOf envelope))) _
+      (too-long envelope long))
+    where
+      same : decided (leb headBytes (length front)) (marked s 4 front) (leb (lengthOf front) messageLimit)
+          ≡ decided (leb headBytes (length envelope)) (marked s 4 envelope) (leb (lengthOf envelope) messageLimit)
+      same = rw (le-leb headBytes (length front) (omega (arith, front-long)), le-leb headBytes (length envelope) (omega arith), same-mark, same-length)
+
+-- a public record of p bytes, and m bytes after it
+parts : (p m : ℕ) (input : List ℕ) → p + m ≤ length input → drop p (take (p + m) input) ≡ take m (drop p input)
+parts p m input h = ap (drop p) (take-add p m input) ∙ drop-at (take p input) (take m (drop p input)) p (length-take-le p input (omega arith))
+
+cut-answers : (s : Numbers) (p m : ℕ) (input : List ℕ) → envelopeBytes s messageLimit < m → p + m ≤ length input
+    → answer ((leb p (length (take (p + m) input)) orElse 1) ∷ openTests s (take p (take (p + m) input)) (drop p (take (p + m) input)))
+    ≡ answer ((leb p (length input) orElse 1) ∷ openTests s (take p input) (drop p input))
+cut-answers s p m input more long =
+    answer-pass 1 _ (le-leb p (length (take (p + m) input)) (omega (arith, length-take (p + m) input)))
+    ∙ ap₂ (λ (a b : List ℕ). answer (openTests s a b)) (take-take p (p + m) input (omega arith)) (parts p m input long)
+    ∙ cut-opens s (drop p input) m more (omega (arith, length-drop p input)) (take p input)
+    ∙ sym (answer-pass 1 _ (le-leb p (length input) (omega arith)))
+
+pub held-decides : (input : List ℕ) (m : ℕ) → envelopeBytes setI messageLimit < m
+    → answer (programTests (take (publicBytes setI + m) input)) ≡ answer (programTests input)
+unfolding programTests
+held-decides input m more =
+    ⊎-elim
+    (λ l. ap (λ (xs : List ℕ). answer (programTests xs)) (take-all (publicBytes setI + m) input (omega arith)))
+    (λ l. cut-answers setI (publicBytes setI) m input more l)
+    (lt-or-le (length input) (publicBytes setI + m))

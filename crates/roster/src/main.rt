@@ -1,0 +1,60 @@
+// The roster program. Standard input is a public record, then an envelope. It writes one line: REFUSED with the number, or the team
+// number and the roster's length of an envelope that is accepted.
+use envelope::Opened;
+use sets::SetI;
+ghost use mathlib.Core.Path.{_≡_};
+ghost use Rattle.whole.specs.Refusal.{answer, after};
+ghost use Rattle.envelope.specs.Answers.{openedNumber, openedTeam, openedLength};
+ghost use Rattle.envelope.specs.Envelope.{lengthOf, teamAnswered};
+ghost use Rattle.roster.specs.Program.{programTests, envelopePart};
+
+// Opens what follows the public record in the input.
+fn open_input(input: &[u8]) -> Opened
+    ensures number { λ r. ⌜ openedNumber r ≡ answer (programTests (now (input .entry))) ⌝ }
+    ensures team { λ r. ⌜ openedTeam r ≡ teamAnswered (answer (programTests (now (input .entry)))) (envelopePart (now (input .entry))) ⌝ }
+    ensures len { λ r. ⌜ openedLength r ≡ after (answer (programTests (now (input .entry)))) (lengthOf (envelopePart (now (input .entry)))) 0 ⌝ }
+{
+    let end = records::public::public_bytes(SetI::numbers());
+    if input.len() < end {
+        return Opened::Length;
+    }
+    envelope::open(&input[..end], &input[end..])
+}
+
+// Writes the line of a refusal.
+fn print_refused(number: u64) {
+    io::write_all(1, b"REFUSED ");
+    io::print_decimal(1, number);
+    io::write_all(1, b"\n");
+}
+
+// Writes the line of an envelope that is accepted.
+fn print_roster(team: u16, len: usize) {
+    io::write_all(1, b"ROSTER team=");
+    io::print_decimal(1, team as u64);
+    io::write_all(1, b" bytes=");
+    io::print_decimal(1, len as u64);
+    io::write_all(1, b" ok\n");
+}
+
+// Writes the line of an answer.
+fn print_answer(opened: Opened) {
+    match opened {
+        Opened::Roster { team, len } => print_roster(team, len),
+        Opened::Length => print_refused(1),
+        Opened::Mark => print_refused(2),
+        Opened::Message => print_refused(3),
+        Opened::Coefficient => print_refused(5),
+        Opened::Z => print_refused(9),
+        Opened::High => print_refused(10),
+        Opened::Hash => print_refused(11),
+    }
+}
+
+// The buffer holds the public record and more than any envelope has. What is longer is answered by what is held of it, as the whole
+// would be: `held-decides` in specs/Program.
+fn main() {
+    let mut input = io::large_buffer();
+    let n = io::read_full(0, &mut input);
+    print_answer(open_input(&input[..n]));
+}
