@@ -6,6 +6,8 @@ use Rattle.maesikkong.proofs.key.maesikkong_make_key.Kinds as make-key-
 use Rattle.maesikkong.proofs.key.maesikkong_make_key.Reads as make-key
 use Rattle.maesikkong.proofs.sign.maesikkong_sign.Kinds as sign-kinds
 use Rattle.maesikkong.proofs.sign.maesikkong_sign.Reads as sign
+use Rattle.maesikkong.proofs.check.maesikkong_check.Kinds as check-kinds
+use Rattle.maesikkong.proofs.check.maesikkong_check.Reads as check
 use Rattle.maesikkong.proofs.key_records.maesikkong_write_public.Kinds as write-public-kinds
 use Rattle.maesikkong.proofs.key_records.maesikkong_write_public.Reads as write-public
 use Rattle.maesikkong.proofs.key_records.maesikkong_read_public.Kinds as read-public-kinds
@@ -18,6 +20,12 @@ use Rattle.maesikkong.proofs.signature_records.maesikkong_write_signatu
 use Rattle.maesikkong.proofs.signature_records.maesikkong_write_signature.Reads as write-signature
 use Rattle.maesikkong.proofs.signature_records.maesikkong_read_signature.Kinds as read-signature-kinds
 use Rattle.maesikkong.proofs.signature_records.maesikkong_read_signature.Reads as read-signature
+use Rattle.maesikkong.proofs.envelopes.maesikkong_write_envelope.Kinds as write-envelope-kinds
+use Rattle.maesikkong.proofs.envelopes.maesikkong_write_envelope.Reads as write-envelope
+use Rattle.maesikkong.proofs.envelopes.maesikkong_read_envelope.Kinds as read-envelope-kinds
+use Rattle.maesikkong.proofs.envelopes.maesikkong_read_envelope.Reads as read-envelope
+use Rattle.maesikkong.proofs.envelopes.maesikkong_open_envelope.Kinds as open-envelope-kinds
+use Rattle.maesikkong.proofs.envelopes.maesikkong_open_envelope.Reads as open-envelope
 use Rattle.maesikkong.proofs.streams.maesikkong_take_a.Kinds as take-a-kinds
 use Rattle.maesikkong.proofs.streams.maesikkong_take_a.Reads as take-a
 use Rattle.maesikkong.proofs.streams.maesikkong_take_y.Kinds as take-y-kinds
@@ -44,6 +52,9 @@ sign-counter κs a x y e f p q = p .1 .0 ∙ sym (q .1 .0)
 
 pub sign-signature : Output 5 sign-kinds.ps sign-kinds.r sign.Learnt (λ κs e. now (e .1 .1 .1 .1 .0))
 sign-signature κs a x y e f p q = p .1 .1 ∙ sym (q .1 .1)
+
+pub check-number : Result 3 check-kinds.ps check-kinds.r check.Learnt
+check-number κs a x y e f p q = p ∙ sym q
 
 pub write-public-number : Result 3 write-public-kinds.ps write-public-kinds.r write-public.Learnt
 write-public-number κs a x y e f p q = p .0 ∙ sym (q .0)
@@ -98,6 +109,36 @@ read-signature-z κs a x y e f p q = p .1 .0 ∙ sym (q .1 .0)
 
 pub read-signature-c : Output 3 read-signature-kinds.ps read-signature-kinds.r read-signature.Learnt (λ κs e. now (e .1 .1 .0))
 read-signature-c κs a x y e f p q = p .1 .1 ∙ sym (q .1 .1)
+
+pub write-envelope-number : Result 3 write-envelope-kinds.ps write-envelope-kinds.r write-envelope.Learnt
+write-envelope-number κs a x y e f p q = p .0 ∙ sym (q .0)
+
+pub write-envelope-envelope : Output 3 write-envelope-kinds.ps write-envelope-kinds.r write-envelope.Learnt (λ κs e. now (e .1 .1 .1 .0))
+write-envelope-envelope κs a x y e f p q = p .1 ∙ sym (q .1)
+
+pub read-envelope-number : Result 4 read-envelope-kinds.ps read-envelope-kinds.r read-envelope.Learnt
+read-envelope-number κs a x y e f p q = p .0 ∙ sym (q .0)
+
+pub read-envelope-team : Output 4 read-envelope-kinds.ps read-envelope-kinds.r read-envelope.Learnt (λ κs e. now (e .1 .0))
+read-envelope-team κs a x y e f p q = p .1 .0 ∙ sym (q .1 .0)
+
+pub read-envelope-start : Output 4 read-envelope-kinds.ps read-envelope-kinds.r read-envelope.Learnt (λ κs e. now (e .1 .1 .0))
+read-envelope-start κs a x y e f p q = p .1 .1 .0 ∙ sym (q .1 .1 .0)
+
+pub read-envelope-len : Output 4 read-envelope-kinds.ps read-envelope-kinds.r read-envelope.Learnt (λ κs e. now (e .1 .1 .1 .0))
+read-envelope-len κs a x y e f p q = p .1 .1 .1 ∙ sym (q .1 .1 .1)
+
+pub open-envelope-number : Result 5 open-envelope-kinds.ps open-envelope-kinds.r open-envelope.Learnt
+open-envelope-number κs a x y e f p q = p .0 ∙ sym (q .0)
+
+pub open-envelope-team : Output 5 open-envelope-kinds.ps open-envelope-kinds.r open-envelope.Learnt (λ κs e. now (e .1 .1 .0))
+open-envelope-team κs a x y e f p q = p .1 .0 ∙ sym (q .1 .0)
+
+pub open-envelope-start : Output 5 open-envelope-kinds.ps open-envelope-kinds.r open-envelope.Learnt (λ κs e. now (e .1 .1 .1 .0))
+open-envelope-start κs a x y e f p q = p .1 .1 .0 ∙ sym (q .1 .1 .0)
+
+pub open-envelope-len : Output 5 open-envelope-kinds.ps open-envelope-kinds.r open-envelope.Learnt (λ κs e. now (e .1 .1 .1 .1 .0))
+open-envelope-len κs a x y e f p q = p .1 .1 .1 ∙ sym (q .1 .1 .1)
 
 pub take-a-number : Result 2 take-a-kinds.ps take-a-kinds.r take-a.Learnt
 take-a-number κs a x y e f p q = p .0 ∙ sym (q .0)

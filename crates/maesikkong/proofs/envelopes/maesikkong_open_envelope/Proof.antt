@@ -1,0 +1,42 @@
+-- `maesikkong_open_envelope` meets its contract: what `envelope::open` answers, as document 01's numbers. Assumes nothing.
+use mathlib.Core.Path.{ap, _∙_}
+use Prim.Native.Nat.{ℕ}
+use borrow.Author.Needs.{needs}
+use Rattle.whole.specs.Refusal.{after}
+use Rattle.envelope.specs.Envelope.{headBytes}
+use Rattle.maesikkong.proofs.envelopes.maesikkong_open_envelope.Statement.{statement}
+use Rattle.maesikkong.proofs.envelopes.maesikkong_open_envelope.Tie as tie
+
+open-requires : tie.Need-open-requires
+open-requires c κs = search needs
+
+opened-number-requires : tie.Need-opened-number-requires
+opened-number-requires c κs = search needs
+
+opened-team-requires : tie.Need-opened-team-requires
+opened-team-requires c κs = search needs
+
+start-with-requires : tie.Need-start-with-requires
+start-with-requires c κs = search needs
+
+opened-len-requires : tie.Need-opened-len-requires
+opened-len-requires c κs = search needs
+
+returns : tie.Need-returns
+returns c =
+    let answers = c .before .before .before .before .open .ensures in
+    let number = c .before .before .before .opened-number .ensures ∙ answers .0 in (
+      number,
+      (
+        c .before .before .opened-team .ensures ∙ answers .1 .0,
+        (
+          c .before .start-with .ensures ∙ ap (λ (n : ℕ). after n headBytes 0) number,
+          c .opened-len .ensures ∙ answers .1 .1,
+        ),
+      ),
+    )
+
+pub maesikkong-open-envelope-spec : {M : Type 1} → statement M
+maesikkong-open-envelope-spec =
+    tie.close
+    (tie.spec open-requires opened-number-requires opened-team-requires start-with-requires opened-len-requires returns)
