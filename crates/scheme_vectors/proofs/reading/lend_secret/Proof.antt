@@ -1,0 +1,118 @@
+use borrow.Author.Needs.{needs}
+use native.Mathlib.Omega.{arith}
+use lib.ListN.{length-take}
+use Rattle.scheme_vectors.proofs.reading.lend_secret.Statement.{statement}
+use Rattle.scheme_vectors.proofs.reading.lend_secret.Tie as tie
+
+number-requires : tie.Need-number-requires
+number-requires c κs = search needs
+
+at-most-requires : tie.Need-at-most-requires
+at-most-requires c κs = search needs
+
+number-requires-2 : tie.Need-number-requires-2
+number-requires-2 c κs = search needs
+
+at-most-requires-2 : tie.Need-at-most-requires-2
+at-most-requires-2 c κs = search needs
+
+number-requires-3 : tie.Need-number-requires-3
+number-requires-3 c κs = search needs
+
+at-most-requires-3 : tie.Need-at-most-requires-3
+at-most-requires-3 c κs = search needs
+
+number-requires-4 : tie.Need-number-requires-4
+number-requires-4 c κs = search needs
+
+at-most-requires-4 : tie.Need-at-most-requires-4
+at-most-requires-4 c κs = search needs
+
+number-requires-5 : tie.Need-number-requires-5
+number-requires-5 c κs = search needs
+
+at-most-requires-5 : tie.Need-at-most-requires-5
+at-most-requires-5 c κs = search needs
+
+slice-relend-prefix-read-secret : tie.Need-slice-relend-prefix-read-secret
+slice-relend-prefix-read-secret c = search needs
+
+slice-aggregate-read-secret : tie.Need-slice-aggregate-read-secret
+slice-aggregate-read-secret c = simp length-take (omega arith)
+
+slice-relend-prefix-read-secret-2 : tie.Need-slice-relend-prefix-read-secret-2
+slice-relend-prefix-read-secret-2 c = search needs
+
+slice-aggregate-read-secret-2 : tie.Need-slice-aggregate-read-secret-2
+slice-aggregate-read-secret-2 c = simp length-take (omega arith)
+
+slice-relend-prefix-read-secret-3 : tie.Need-slice-relend-prefix-read-secret-3
+slice-relend-prefix-read-secret-3 c = search needs
+
+slice-aggregate-read-secret-3 : tie.Need-slice-aggregate-read-secret-3
+slice-aggregate-read-secret-3 c = simp length-take (omega arith)
+
+slice-relend-prefix-read-secret-4 : tie.Need-slice-relend-prefix-read-secret-4
+slice-relend-prefix-read-secret-4 c = search needs
+
+slice-aggregate-read-secret-4 : tie.Need-slice-aggregate-read-secret-4
+slice-aggregate-read-secret-4 c = simp length-take (omega arith)
+
+slice-relend-prefix-read-secret-5 : tie.Need-slice-relend-prefix-read-secret-5
+slice-relend-prefix-read-secret-5 c = search needs
+
+slice-aggregate-read-secret-5 : tie.Need-slice-aggregate-read-secret-5
+slice-aggregate-read-secret-5 c = simp length-take (omega arith)
+
+read-secret-requires : tie.Need-read-secret-requires
+read-secret-requires c κs = search needs
+
+same-length : tie.Need-same-length
+same-length c = search needs
+
+same-length-2 : tie.Need-same-length-2
+same-length-2 c = search needs
+
+same-length-3 : tie.Need-same-length-3
+same-length-3 c = search needs
+
+same-length-4 : tie.Need-same-length-4
+same-length-4 c = search needs
+
+same-length-5 : tie.Need-same-length-5
+same-length-5 c = search needs
+
+returns : tie.Need-returns
+returns c = search needs
+
+pub lend-secret-spec : {M : Type 1} → statement M
+lend-secret-spec =
+    tie.close
+    (tie.spec
+    number-requires
+    at-most-requires
+    number-requires-2
+    at-most-requires-2
+    number-requires-3
+    at-most-requires-3
+    number-requires-4
+    at-most-requires-4
+    number-requires-5
+    at-most-requires-5
+    slice-relend-prefix-read-secret
+    slice-aggregate-read-secret
+    slice-relend-prefix-read-secret-2
+    slice-aggregate-read-secret-2
+    slice-relend-prefix-read-secret-3
+    slice-aggregate-read-secret-3
+    slice-relend-prefix-read-secret-4
+    slice-aggregate-read-secret-4
+    slice-relend-prefix-read-secret-5
+    slice-aggregate-read-secret-5
+    read-secret-requires
+    same-length
+    same-length-2
+    same-length-3
+    same-length-4
+    same-length-5
+    returns)
