@@ -11,7 +11,7 @@ shake_vectors: a case is a row of steps, and each step a letter with what it nee
 
 A length has two bytes, low first.
 
-sampling_vectors has its cases in sampling_vectors.py.
+sampling_vectors and scheme_vectors have their cases in files of their own.
 """
 
 import hashlib
@@ -19,6 +19,7 @@ import os
 import random
 
 from sampling_vectors import sampling_vectors
+from scheme_vectors import scheme_vectors
 
 BLOCK = 136
 LONGEST = 4096   # of a squeeze
@@ -147,7 +148,8 @@ def shake_vectors():
     return stdin, stdout
 
 
-PROGRAMS = {"shake_vectors": shake_vectors, "sampling_vectors": sampling_vectors}
+PROGRAMS = {"shake_vectors": shake_vectors, "sampling_vectors": sampling_vectors,
+            "scheme_vectors": scheme_vectors}
 
 
 def files():

@@ -14,11 +14,11 @@
 //     e  lengths of s, e, seed_a, seed_y, g       of reading it the number, and the hashes of the five
 //     Z  places of z, c'                          of writing the signature record the number, and its hash
 //     z  lengths of z, c'                         of reading it the number, and the hashes of z and c'
-// A buffer is named by one byte. A start, a length and a counter have two bytes, and the budget four, low first. A place is the start and
-// the length of a stretch of the memory; a stretch that runs past the end is empty. t and z have 4 bytes a value there and where they are
-// hashed, and their lengths count values. A hash is 32 bytes of SHAKE256: of a record over its whole buffer, after the call; of what is
-// read over the output after the call, before which all its bytes are A5. Any other letter writes an empty line, and what is no letter
-// with a piece ends the run.
+// A buffer is named by one byte. A start, a length and the counter have two bytes, and the budget four, low first. A place is the start
+// and the length of a stretch of the memory; one that runs past its end is empty. t and z have 4 bytes a value, in the memory and where
+// they are hashed. The lengths of what is read count its values, up to four more than the record has. A hash is 32 bytes of SHAKE256: of
+// a record's whole buffer after the call, or of an output that is read into after the call, before which all its bytes are A5. Any other
+// letter writes an empty line, and what is no letter with a piece ends the run.
 mod algorithms;
 mod answers;
 mod buffers;
@@ -117,13 +117,7 @@ fn step(
 }
 
 // All cases of the input.
-fn run(
-    s: &[u8],
-    public: &mut [u8],
-    secret: &mut [u8],
-    signature: &mut [u8],
-    memory: &mut [u8],
-) {
+fn run(s: &[u8], public: &mut [u8], secret: &mut [u8], signature: &mut [u8], memory: &mut [u8]) {
     let mut lent = buffers::whole_records();
     let mut at = 0;
     while at < s.len() {

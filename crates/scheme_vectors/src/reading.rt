@@ -41,7 +41,7 @@ fn lend_public(public: &[u8], given: &[u8], t: &mut [u32], seed_a: &mut [u8], by
 // What is given: the lengths of t and seed_a.
 pub fn public(given: &[u8], lent: Lent, public: &[u8]) {
     let mut t = places_t();
-    let mut seed_a = [0xA5u8; 40];
+    let mut seed_a = [0xA5u8; 36];
     let mut bytes = io::large_buffer();
     lend_public(
         cases::first(public, lent.public),
@@ -100,9 +100,9 @@ fn lend_secret(
 pub fn secret(given: &[u8], lent: Lent, secret: &[u8]) {
     let mut s = [0xA5u8; 1028];
     let mut e = [0xA5u8; 4100];
-    let mut seed_a = [0xA5u8; 40];
-    let mut seed_y = [0xA5u8; 40];
-    let mut g = [0xA5u8; 48];
+    let mut seed_a = [0xA5u8; 36];
+    let mut seed_y = [0xA5u8; 36];
+    let mut g = [0xA5u8; 44];
     lend_secret(
         cases::first(secret, lent.secret),
         given,
@@ -133,18 +133,13 @@ fn lend_signature(signature: &[u8], given: &[u8], z: &mut [i32], c: &mut [u8], b
     let count = at_most(number(given, 0), 1028);
     let n = at_most(number(given, 2), c.len());
     let long = 4 * count;
-    read_signature(
-        signature,
-        &mut z[..count],
-        &mut c[..n],
-        &mut bytes[..long],
-    );
+    read_signature(signature, &mut z[..count], &mut c[..n], &mut bytes[..long]);
 }
 
 // What is given: the lengths of z and c'.
 pub fn signature(given: &[u8], lent: Lent, signature: &[u8]) {
     let mut z = places_z();
-    let mut c = [0xA5u8; 40];
+    let mut c = [0xA5u8; 36];
     let mut bytes = io::large_buffer();
     lend_signature(
         cases::first(signature, lent.signature),

@@ -1,3 +1,5 @@
+-- `sign` is safe: what is lent of the signature record is part of its buffer.
+-- Assumes nothing.
 use borrow.Author.Needs.{needs}
 use native.Mathlib.Omega.{arith}
 use lib.ListN.{length-take}

@@ -1,3 +1,5 @@
+-- `whole_records` is safe: set I's numbers are good.
+-- Assumes nothing.
 use borrow.Author.Needs.{needs}
 use Rattle.sets.specs.SetI.{setI-good}
 use Rattle.scheme_vectors.proofs.buffers.whole_records.Statement.{statement}

@@ -1,3 +1,5 @@
+-- `lend_public` is safe: the parts that are lent are no longer than the outputs, and there are 4 bytes for each value of t.
+-- Assumes nothing.
 use borrow.Author.Needs.{needs}
 use native.Mathlib.Omega.{arith}
 use lib.ListN.{length-take}

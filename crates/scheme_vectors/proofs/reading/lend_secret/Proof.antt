@@ -1,3 +1,5 @@
+-- `lend_secret` is safe: the parts that are lent are no longer than the outputs.
+-- Assumes nothing.
 use borrow.Author.Needs.{needs}
 use native.Mathlib.Omega.{arith}
 use lib.ListN.{length-take}

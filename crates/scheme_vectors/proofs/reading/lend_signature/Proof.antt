@@ -1,3 +1,5 @@
+-- `lend_signature` is safe: the parts that are lent are no longer than the outputs, and there are 4 bytes for each value of z.
+-- Assumes nothing.
 use borrow.Author.Needs.{needs}
 use native.Mathlib.Omega.{arith}
 use lib.ListN.{length-take}

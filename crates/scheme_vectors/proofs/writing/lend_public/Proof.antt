@@ -1,3 +1,5 @@
+-- `lend_public` is safe: what is lent of t and of the record is part of its slice.
+-- Assumes nothing.
 use borrow.Author.Needs.{needs}
 use native.Mathlib.Omega.{arith}
 use lib.ListN.{length-take}

@@ -1,3 +1,5 @@
+-- `lend_signature` is safe: what is lent of z and of the record is part of its slice.
+-- Assumes nothing.
 use borrow.Author.Needs.{needs}
 use native.Mathlib.Omega.{arith}
 use lib.ListN.{length-take}
