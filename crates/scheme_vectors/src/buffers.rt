@@ -91,6 +91,13 @@ pub fn at_most(n: usize, most: usize) -> usize
     if n < most { n } else { most }
 }
 
+// The length at a place of what is given, or most where that is less.
+pub fn length_at(given: &[u8], at: usize, most: usize) -> usize
+    ensures { λ r. ⌜ r ≤ most ⌝ }
+{
+    at_most(number(given, at), most)
+}
+
 // Writes the hash of the bytes.
 pub fn print_hash(bytes: &[u8]) {
     cases::print_hash(Sponge::blank().absorb(bytes));

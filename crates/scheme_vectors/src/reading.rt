@@ -2,13 +2,12 @@
 // touched it would show.
 use crate::answers;
 use crate::buffers::Lent;
-use crate::buffers::at_most;
-use crate::buffers::number;
+use crate::buffers::length_at;
 use crate::buffers::places_t;
 use crate::buffers::places_z;
 use crate::buffers::print_hash;
 ghost use mathlib.Core.Path.{_≡_};
-ghost use Prim.Native.Nat.{_≤_, _*_};
+ghost use Prim.Native.Nat.{_*_};
 ghost use lib.ListN.{length};
 
 // ---- the public record
@@ -27,8 +26,8 @@ fn read_public(public: &[u8], t: &mut [u32], seed_a: &mut [u8], bytes: &mut [u8]
 fn lend_public(public: &[u8], given: &[u8], t: &mut [u32], seed_a: &mut [u8], bytes: &mut [u8])
     requires { ⌜ (4100 ≡ length (now t)) × (65536 ≡ length (now bytes)) ⌝ }
 {
-    let count = at_most(number(given, 0), 4100);
-    let n = at_most(number(given, 2), seed_a.len());
+    let count = length_at(given, 0, 4100);
+    let n = length_at(given, 2, seed_a.len());
     let long = 4 * count;
     read_public(
         public,
@@ -81,11 +80,11 @@ fn lend_secret(
     seed_y: &mut [u8],
     g: &mut [u8],
 ) {
-    let n = at_most(number(given, 0), s.len());
-    let kn = at_most(number(given, 2), e.len());
-    let long_a = at_most(number(given, 4), seed_a.len());
-    let long_y = at_most(number(given, 6), seed_y.len());
-    let long_g = at_most(number(given, 8), g.len());
+    let n = length_at(given, 0, s.len());
+    let kn = length_at(given, 2, e.len());
+    let long_a = length_at(given, 4, seed_a.len());
+    let long_y = length_at(given, 6, seed_y.len());
+    let long_g = length_at(given, 8, g.len());
     read_secret(
         secret,
         &mut s[..n],
@@ -130,8 +129,8 @@ fn read_signature(signature: &[u8], z: &mut [i32], c: &mut [u8], bytes: &mut [u8
 fn lend_signature(signature: &[u8], given: &[u8], z: &mut [i32], c: &mut [u8], bytes: &mut [u8])
     requires { ⌜ (1028 ≡ length (now z)) × (65536 ≡ length (now bytes)) ⌝ }
 {
-    let count = at_most(number(given, 0), 1028);
-    let n = at_most(number(given, 2), c.len());
+    let count = length_at(given, 0, 1028);
+    let n = length_at(given, 2, c.len());
     let long = 4 * count;
     read_signature(signature, &mut z[..count], &mut c[..n], &mut bytes[..long]);
 }

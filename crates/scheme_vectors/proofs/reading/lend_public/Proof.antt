@@ -6,17 +6,11 @@ use lib.ListN.{length-take}
 use Rattle.scheme_vectors.proofs.reading.lend_public.Statement.{statement}
 use Rattle.scheme_vectors.proofs.reading.lend_public.Tie as tie
 
-number-requires : tie.Need-number-requires
-number-requires c κs = search needs
+length-at-requires : tie.Need-length-at-requires
+length-at-requires c κs = search needs
 
-at-most-requires : tie.Need-at-most-requires
-at-most-requires c κs = search needs
-
-number-requires-2 : tie.Need-number-requires-2
-number-requires-2 c κs = search needs
-
-at-most-requires-2 : tie.Need-at-most-requires-2
-at-most-requires-2 c κs = search needs
+length-at-requires-2 : tie.Need-length-at-requires-2
+length-at-requires-2 c κs = search needs
 
 mul-long : tie.Need-mul-long
 mul-long c = search needs
@@ -58,10 +52,8 @@ pub lend-public-spec : {M : Type 1} → statement M
 lend-public-spec =
     tie.close
     (tie.spec
-    number-requires
-    at-most-requires
-    number-requires-2
-    at-most-requires-2
+    length-at-requires
+    length-at-requires-2
     mul-long
     slice-relend-prefix-read-public
     slice-aggregate-read-public

@@ -6,35 +6,20 @@ use lib.ListN.{length-take}
 use Rattle.scheme_vectors.proofs.reading.lend_secret.Statement.{statement}
 use Rattle.scheme_vectors.proofs.reading.lend_secret.Tie as tie
 
-number-requires : tie.Need-number-requires
-number-requires c κs = search needs
+length-at-requires : tie.Need-length-at-requires
+length-at-requires c κs = search needs
 
-at-most-requires : tie.Need-at-most-requires
-at-most-requires c κs = search needs
+length-at-requires-2 : tie.Need-length-at-requires-2
+length-at-requires-2 c κs = search needs
 
-number-requires-2 : tie.Need-number-requires-2
-number-requires-2 c κs = search needs
+length-at-requires-3 : tie.Need-length-at-requires-3
+length-at-requires-3 c κs = search needs
 
-at-most-requires-2 : tie.Need-at-most-requires-2
-at-most-requires-2 c κs = search needs
+length-at-requires-4 : tie.Need-length-at-requires-4
+length-at-requires-4 c κs = search needs
 
-number-requires-3 : tie.Need-number-requires-3
-number-requires-3 c κs = search needs
-
-at-most-requires-3 : tie.Need-at-most-requires-3
-at-most-requires-3 c κs = search needs
-
-number-requires-4 : tie.Need-number-requires-4
-number-requires-4 c κs = search needs
-
-at-most-requires-4 : tie.Need-at-most-requires-4
-at-most-requires-4 c κs = search needs
-
-number-requires-5 : tie.Need-number-requires-5
-number-requires-5 c κs = search needs
-
-at-most-requires-5 : tie.Need-at-most-requires-5
-at-most-requires-5 c κs = search needs
+length-at-requires-5 : tie.Need-length-at-requires-5
+length-at-requires-5 c κs = search needs
 
 slice-relend-prefix-read-secret : tie.Need-slice-relend-prefix-read-secret
 slice-relend-prefix-read-secret c = search needs
@@ -91,16 +76,11 @@ pub lend-secret-spec : {M : Type 1} → statement M
 lend-secret-spec =
     tie.close
     (tie.spec
-    number-requires
-    at-most-requires
-    number-requires-2
-    at-most-requires-2
-    number-requires-3
-    at-most-requires-3
-    number-requires-4
-    at-most-requires-4
-    number-requires-5
-    at-most-requires-5
+    length-at-requires
+    length-at-requires-2
+    length-at-requires-3
+    length-at-requires-4
+    length-at-requires-5
     slice-relend-prefix-read-secret
     slice-aggregate-read-secret
     slice-relend-prefix-read-secret-2
