@@ -14,8 +14,9 @@ crates, so that the two can be compared. From the repository's root:
 sets.py has the numbers of a set, answers.py the numbers that come back,
 sums.py the arithmetic, streams.py SHAKE256 and what is drawn from it,
 records.py, scheme.py and envelope.py the entries, program.py the line,
-vectors.py the vector programs' files, with sampling_vectors.py and roster_inputs.py. checks/ holds the
-assertions, compare/ the comparison in bulk with the library that scripts/face builds.
+vectors.py the vector programs' files, with sampling_vectors.py,
+scheme_vectors.py and roster_inputs.py. checks/ holds the assertions, compare/
+the comparison in bulk with the library that scripts/face builds.
 """
 
 import os

@@ -11,8 +11,8 @@ shake_vectors: a case is a row of steps, and each step a letter with what it nee
 
 A length has two bytes, low first.
 
-sampling_vectors has its cases in sampling_vectors.py, and the inputs of the roster program are in
-roster_inputs.py.
+sampling_vectors and scheme_vectors have their cases in files of their own, and so have the inputs of
+the roster program, in roster_inputs.py.
 """
 
 import hashlib
@@ -21,6 +21,7 @@ import random
 
 import roster_inputs
 from sampling_vectors import sampling_vectors
+from scheme_vectors import scheme_vectors
 
 BLOCK = 136
 LONGEST = 4096   # of a squeeze
@@ -149,7 +150,8 @@ def shake_vectors():
     return stdin, stdout
 
 
-PROGRAMS = {"shake_vectors": shake_vectors, "sampling_vectors": sampling_vectors}
+PROGRAMS = {"shake_vectors": shake_vectors, "sampling_vectors": sampling_vectors,
+            "scheme_vectors": scheme_vectors}
 
 
 def files():

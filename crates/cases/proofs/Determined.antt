@@ -17,6 +17,8 @@ use Rattle.cases.proofs.part.Kinds as part-kinds
 use Rattle.cases.proofs.part.Reads as part
 use Rattle.cases.proofs.rest.Kinds as rest-kinds
 use Rattle.cases.proofs.rest.Reads as rest
+use Rattle.cases.proofs.first.Kinds as first-kinds
+use Rattle.cases.proofs.first.Reads as first
 use Rattle.cases.proofs.hex.Kinds as hex-kinds
 use Rattle.cases.proofs.hex.Reads as hex
 use Rattle.cases.proofs.values.of_u32.Kinds as of-u32-kinds
@@ -46,6 +48,10 @@ part-determined κs a x y e f p q = p ∙ sym q
 pub rest-determined : (κs : Lfts 1) (a : Dens κs rest-kinds.ps) (x y : resT rest-kinds.r κs .Denot) (e f : AtExit (endedOf 1 rest-kinds.ps rest-kinds.r) κs)
     → rest.Learnt κs a x e → rest.Learnt κs a y f → now x ≡ now y
 rest-determined κs a x y e f p q = p ∙ sym q
+
+pub first-determined : (κs : Lfts 1) (a : Dens κs first-kinds.ps) (x y : resT first-kinds.r κs .Denot) (e f : AtExit (endedOf 1 first-kinds.ps first-kinds.r) κs)
+    → first.Learnt κs a x e → first.Learnt κs a y f → now x ≡ now y
+first-determined κs a x y e f p q = p ∙ sym q
 
 -- ---- what is written
 

@@ -1,9 +1,10 @@
 // What the vector programs share: reading numbers and pieces off the input, values as bytes, and writing bytes in hexadecimal.
 pub mod values;
 
+use shake::Sponge;
 ghost use mathlib.Core.Path.{_≡_};
 ghost use Prim.Native.Nat.{_+_, _*_, _≤_, _<_, _/_};
-ghost use lib.ListN.{length, drop};
+ghost use lib.ListN.{length, take, drop};
 ghost use Rattle.cases.specs.Input.{byteAt, numberAt, pieceAt, partOf};
 ghost use Rattle.cases.specs.Hex.{digitOf, hexAt, hexOf};
 
@@ -115,6 +116,13 @@ pub fn rest(s: &[u8], start: usize) -> &[u8]
     }
 }
 
+// The first n bytes, or all where there are fewer.
+pub fn first(s: &[u8], n: usize) -> &[u8]
+    ensures { λ r. ⌜ now r ≡ take n (now (s .entry)) ⌝ }
+{
+    if n <= s.len() { &s[..n] } else { s }
+}
+
 // The hexadecimal digit of v, in lower case.
 fn digit(v: u8) -> u8
     requires { ⌜ v < 16 ⌝ }
@@ -174,6 +182,13 @@ pub fn print_hex(bytes: &[u8]) {
         print_through(&bytes[at..at + n], text);
         at += n;
     }
+}
+
+// Writes 32 bytes of what the sponge has absorbed, in hexadecimal.
+pub fn print_hash(sponge: Sponge) {
+    let mut hash = [0u8; 32];
+    sponge.squeeze(&mut hash);
+    print_hex(&hash);
 }
 
 // Ends a line of standard output.

@@ -9,13 +9,6 @@ ghost use Prim.Native.Nat.{_*_};
 ghost use lib.ListN.{length};
 ghost use Rattle.sets.specs.Good.{Good};
 
-// Writes 32 bytes of what the sponge has absorbed.
-fn print_hash(sponge: Sponge) {
-    let mut hash = [0u8; 32];
-    sponge.squeeze(&mut hash);
-    cases::print_hex(&hash);
-}
-
 // ---- a_1..a_k
 
 // Absorbs the values, by way of bytes.
@@ -49,7 +42,7 @@ fn absorb_a(set: Numbers, seed_a: &[u8], a: &mut [u32], bytes: &mut [u8]) -> Spo
 pub fn all_a(seed_a: &[u8]) {
     let mut a = [0u32; SetI::N];
     let mut bytes = [0u8; 4 * SetI::N];
-    print_hash(absorb_a(SetI::numbers(), seed_a, &mut a, &mut bytes));
+    cases::print_hash(absorb_a(SetI::numbers(), seed_a, &mut a, &mut bytes));
 }
 
 // ---- y
@@ -73,7 +66,7 @@ pub fn y(given: &[u8]) {
         &mut y,
     );
     cases::values::of_i32(&y, &mut bytes);
-    print_hash(Sponge::blank().absorb(&bytes));
+    cases::print_hash(Sponge::blank().absorb(&bytes));
 }
 
 // ---- Enc
