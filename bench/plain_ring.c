@@ -10,7 +10,7 @@
 static inline uint64_t fold(const uint32_t *x, const uint32_t *y, size_t count, uint64_t acc) {
     for (size_t i = 0; i < count; i++) {
         acc += (uint64_t)x[i] * y[count - 1 - i];
-        if (acc >= MULTIPLE)
+        while (acc >= MULTIPLE)
             acc -= MULTIPLE;
     }
     return acc;
