@@ -168,14 +168,14 @@ typedef struct {
 
 // A line may use what those above it left: a, the key, the signatures.
 static const Line LINES[] = {
-    {"a permutation", ours_permute, c_permute, 1, PERMUTATIONS, 40},
-    {"absorbing 64 KiB", ours_absorb, c_absorb, 1, 1, 40},
-    {"squeezing 64 KiB", ours_squeeze, c_squeeze, 1, 1, 40},
-    {"expanding a from a seed", ours_expand, c_expand, 20, 1, 20},
-    {"packing a polynomial at 29 bits", ours_pack, c_pack, K, POLYNOMIALS, 20},
-    {"unpacking a polynomial at 29 bits", ours_unpack, c_unpack, K, POLYNOMIALS, 20},
-    {"a plain product, 1024 coefficients", ours_multiply, c_multiply, K, 1, 20},
-    {"key making", ours_key, c_key, 2, 1, 20},
+    {"a permutation", ours_permute, c_permute, 1, PERMUTATIONS, 300},
+    {"absorbing 64 KiB", ours_absorb, c_absorb, 1, 1, 300},
+    {"squeezing 64 KiB", ours_squeeze, c_squeeze, 1, 1, 300},
+    {"expanding a from a seed", ours_expand, c_expand, 20, 1, 40},
+    {"packing a polynomial at 29 bits", ours_pack, c_pack, K, POLYNOMIALS, 150},
+    {"unpacking a polynomial at 29 bits", ours_unpack, c_unpack, K, POLYNOMIALS, 150},
+    {"a plain product, 1024 coefficients", ours_multiply, c_multiply, K, 1, 100},
+    {"key making", ours_key, c_key, 2, 1, 50},
     {"one attempt: signing with budget 1", ours_attempt, c_attempt, MESSAGES, 1, 4},
     {"a whole signature, mean of 50", ours_signature, c_signature, MESSAGES, 1, 3},
     {"checking", ours_check, c_check, MESSAGES, 1, 4},
