@@ -1,4 +1,4 @@
-// Measures the proved functions against plain C in one run, and checks that both compute the same bytes.
+// Measures the proved functions against plain C in one run, once both have computed the same bytes.
 #include <stdint.h>
 #include <stdio.h>
 #include <string.h>
@@ -10,122 +10,307 @@
 void speed_permute(uint64_t *lanes, size_t count);
 void speed_shake(const uint8_t *message, size_t message_len, uint8_t *out, size_t out_len);
 void speed_expand(const uint8_t *seed, size_t seed_len, uint32_t *a, size_t count);
+void speed_pack(const uint32_t *values, size_t count, uint8_t *out, size_t out_len);
+void speed_unpack(const uint8_t *bytes, size_t len, uint32_t *out, size_t count);
+void speed_multiply(const uint32_t *a, size_t a_count, const uint32_t *b, size_t b_count, uint32_t *out, size_t count);
+uint8_t maesikkong_make_key(const uint8_t *s, size_t s_len, const uint8_t *e, size_t e_len, const uint8_t *seed_a, size_t seed_a_len,
+                            const uint8_t *seed_y, size_t seed_y_len, uint8_t *public_record, size_t public_len, uint8_t *secret_record,
+                            size_t secret_len);
+uint8_t maesikkong_sign(const uint8_t *secret_record, size_t secret_len, const uint8_t *message, size_t message_len, const uint8_t *r,
+                        size_t r_len, uint32_t budget, uint8_t *signature, size_t signature_len, uint16_t *counter);
+uint8_t maesikkong_check(const uint8_t *public_record, size_t public_len, const uint8_t *message, size_t message_len,
+                         const uint8_t *signature, size_t signature_len);
 
 #define MUCH 65536
-#define ROUNDS 40
 #define PERMUTATIONS 1000
-#define SEED 32
-#define SEEDS 20
+#define POLYNOMIALS 100
+#define MESSAGES 50
+#define MESSAGE 59
+
+// What came back from signing a message.
+typedef struct {
+    uint8_t signature[SIGNATURE];
+    uint16_t counter;
+    uint8_t answer;
+} Signed;
 
 // What is measured on: each side has its own.
 typedef struct {
     uint64_t lanes[25];
-    uint8_t message[MUCH];
-    uint8_t out[MUCH];
-    uint32_t a[A_VALUES];
+    uint8_t bytes[MUCH], out[MUCH];
+    uint32_t a[A_VALUES], product[N], unpacked[N];
+    uint8_t packed[T_BYTES];
+    uint8_t s[N], e[K * N], public_record[PUBLIC], secret_record[SECRET], made;
+    uint8_t messages[MESSAGES][MESSAGE], r[MESSAGES][SEED];
+    Signed tried[MESSAGES], found[MESSAGES];
+    uint8_t checked[MESSAGES];
 } Bench;
 
 static Bench ours, theirs;
 
-static void ours_permute(void) {
-    for (int i = 0; i < PERMUTATIONS; i++)
+// ---- what is measured: work i of a line, by the proved functions and by plain C
+
+static void ours_permute(int i) {
+    for (int j = 0; j < PERMUTATIONS; j++)
         speed_permute(ours.lanes, 25);
+    (void)i;
 }
 
-static void plain_permutes(void) {
-    for (int i = 0; i < PERMUTATIONS; i++)
+static void c_permute(int i) {
+    for (int j = 0; j < PERMUTATIONS; j++)
         plain_permute(theirs.lanes);
+    (void)i;
 }
 
-static void ours_absorb(void) {
-    speed_shake(ours.message, MUCH, ours.out, 32);
+static void ours_absorb(int i) {
+    speed_shake(ours.bytes, MUCH, ours.out + SEED * i, SEED);
 }
 
-static void plain_absorb(void) {
-    plain_shake(theirs.message, MUCH, theirs.out, 32);
+static void c_absorb(int i) {
+    plain_shake(theirs.bytes, MUCH, theirs.out + SEED * i, SEED);
 }
 
-static void ours_squeeze(void) {
-    speed_shake(ours.message, 0, ours.out, MUCH);
+static void ours_squeeze(int i) {
+    speed_shake(ours.bytes, i, ours.out, MUCH);
 }
 
-static void plain_squeeze(void) {
-    plain_shake(theirs.message, 0, theirs.out, MUCH);
+static void c_squeeze(int i) {
+    plain_shake(theirs.bytes, i, theirs.out, MUCH);
 }
 
-static void ours_expand(void) {
-    for (int i = 0; i < SEEDS; i++)
-        speed_expand(ours.message + SEED * i, SEED, ours.a, A_VALUES);
+static void ours_expand(int i) {
+    speed_expand(ours.bytes + SEED * i, SEED, ours.a, A_VALUES);
 }
 
-static void plain_expands(void) {
-    for (int i = 0; i < SEEDS; i++)
-        plain_expand(theirs.message + SEED * i, SEED, theirs.a);
+static void c_expand(int i) {
+    plain_expand(theirs.bytes + SEED * i, SEED, theirs.a);
+}
+
+static void ours_pack(int i) {
+    for (int j = 0; j < POLYNOMIALS; j++)
+        speed_pack(ours.a + N * i, N, ours.packed, T_BYTES);
+}
+
+static void c_pack(int i) {
+    for (int j = 0; j < POLYNOMIALS; j++)
+        plain_pack_t(theirs.a + N * i, theirs.packed);
+}
+
+static void ours_unpack(int i) {
+    for (int j = 0; j < POLYNOMIALS; j++)
+        speed_unpack(ours.bytes + T_BYTES * i, T_BYTES, ours.unpacked, N);
+}
+
+static void c_unpack(int i) {
+    for (int j = 0; j < POLYNOMIALS; j++)
+        plain_unpack_t(theirs.bytes + T_BYTES * i, theirs.unpacked);
+}
+
+static void ours_multiply(int i) {
+    speed_multiply(ours.a + N * i, N, ours.a, N, ours.product, N);
+}
+
+static void c_multiply(int i) {
+    plain_multiply(theirs.a + N * i, theirs.a, theirs.product);
+}
+
+static void ours_key(int i) {
+    ours.made = maesikkong_make_key(ours.s, N, ours.e, K * N, ours.bytes + i, SEED, ours.bytes, SEED, ours.public_record, PUBLIC,
+                                    ours.secret_record, SECRET);
+}
+
+static void c_key(int i) {
+    theirs.made = plain_make_key(theirs.s, theirs.e, theirs.bytes + i, theirs.bytes, theirs.public_record, theirs.secret_record);
+}
+
+static void ours_sign(int i, uint32_t budget, Signed *to) {
+    to->answer =
+        maesikkong_sign(ours.secret_record, SECRET, ours.messages[i], MESSAGE, ours.r[i], SEED, budget, to->signature, SIGNATURE, &to->counter);
+}
+
+static void c_sign(int i, uint32_t budget, Signed *to) {
+    to->answer = plain_sign(theirs.secret_record, theirs.messages[i], MESSAGE, theirs.r[i], budget, to->signature, &to->counter);
+}
+
+static void ours_attempt(int i) {
+    ours_sign(i, 1, &ours.tried[i]);
+}
+
+static void c_attempt(int i) {
+    c_sign(i, 1, &theirs.tried[i]);
+}
+
+static void ours_signature(int i) {
+    ours_sign(i, BUDGET_LIMIT, &ours.found[i]);
+}
+
+static void c_signature(int i) {
+    c_sign(i, BUDGET_LIMIT, &theirs.found[i]);
+}
+
+static void ours_check(int i) {
+    ours.checked[i] = maesikkong_check(ours.public_record, PUBLIC, ours.messages[i], MESSAGE, ours.found[i].signature, SIGNATURE);
+}
+
+static void c_check(int i) {
+    theirs.checked[i] = plain_check(theirs.public_record, theirs.messages[i], MESSAGE, theirs.found[i].signature);
 }
 
 typedef struct {
     const char *name;
-    void (*ours)(void);
-    void (*plain)(void);
-    int times;
+    void (*ours)(int i);
+    void (*plain)(int i);
+    // the works, and how often one does what is named
+    int works, times;
+    // the rounds: the best of them counts
+    int rounds;
 } Line;
 
+// A line may use what those above it left: a, the key, the signatures.
 static const Line LINES[] = {
-    {"a permutation", ours_permute, plain_permutes, PERMUTATIONS},
-    {"absorbing 64 KiB", ours_absorb, plain_absorb, 1},
-    {"squeezing 64 KiB", ours_squeeze, plain_squeeze, 1},
-    {"expanding a from a seed", ours_expand, plain_expands, SEEDS},
+    {"a permutation", ours_permute, c_permute, 1, PERMUTATIONS, 300},
+    {"absorbing 64 KiB", ours_absorb, c_absorb, 1, 1, 300},
+    {"squeezing 64 KiB", ours_squeeze, c_squeeze, 1, 1, 300},
+    {"expanding a from a seed", ours_expand, c_expand, 20, 1, 40},
+    {"packing a polynomial at 29 bits", ours_pack, c_pack, K, POLYNOMIALS, 150},
+    {"unpacking a polynomial at 29 bits", ours_unpack, c_unpack, K, POLYNOMIALS, 150},
+    {"a plain product, 1024 coefficients", ours_multiply, c_multiply, K, 1, 100},
+    {"key making", ours_key, c_key, 2, 1, 50},
+    {"one attempt: signing with budget 1", ours_attempt, c_attempt, MESSAGES, 1, 4},
+    {"a whole signature, mean of 50", ours_signature, c_signature, MESSAGES, 1, 3},
+    {"checking", ours_check, c_check, MESSAGES, 1, 4},
 };
 
-static double nanoseconds(void (*work)(void)) {
-    struct timespec from, to;
-    clock_gettime(CLOCK_MONOTONIC, &from);
-    work();
-    clock_gettime(CLOCK_MONOTONIC, &to);
-    return (to.tv_sec - from.tv_sec) * 1e9 + (to.tv_nsec - from.tv_nsec);
+#define COUNT (sizeof LINES / sizeof LINES[0])
+
+// ---- both compute the same
+
+static int same(void) {
+    return memcmp(&ours, &theirs, sizeof ours) == 0;
 }
 
-// Messages and outputs about a block's length, lanes that are not 25, and several seeds.
+// Messages and outputs about a block's length, and lengths and values that do not fit.
 static int same_at_edges(void) {
     static const size_t EDGES[] = {0, 1, 7, 8, 135, 136, 137, 271, 272, 273, 4096};
     const int count = sizeof EDGES / sizeof EDGES[0];
     for (int i = 0; i < count; i++)
         for (int j = 0; j < count; j++) {
-            speed_shake(ours.message, EDGES[i], ours.out, EDGES[j]);
-            plain_shake(theirs.message, EDGES[i], theirs.out, EDGES[j]);
-            if (memcmp(&ours, &theirs, sizeof ours) != 0)
+            speed_shake(ours.bytes, EDGES[i], ours.out, EDGES[j]);
+            plain_shake(theirs.bytes, EDGES[i], theirs.out, EDGES[j]);
+            if (!same())
                 return 0;
         }
-    for (int i = 0; i < SEEDS; i++) {
-        speed_expand(ours.message + SEED * i, SEED, ours.a, A_VALUES);
-        plain_expand(theirs.message + SEED * i, SEED, theirs.a);
-        if (memcmp(&ours, &theirs, sizeof ours) != 0)
-            return 0;
-    }
-    speed_expand(ours.message, SEED, ours.a, A_VALUES - 1);
+    uint32_t large[N] = {Q};
     speed_permute(ours.lanes, 24);
-    return memcmp(&ours, &theirs, sizeof ours) == 0;
+    speed_expand(ours.bytes, SEED, ours.a, A_VALUES - 1);
+    speed_pack(large, N, ours.packed, T_BYTES);
+    plain_pack_t(large, theirs.packed);
+    speed_unpack(ours.bytes, T_BYTES - 1, ours.unpacked, N);
+    speed_multiply(large, N, ours.a, N, ours.product, N);
+    plain_multiply(large, theirs.a, theirs.product);
+    return same();
+}
+
+// Every work once, and the answers that it has to give.
+static int same_works(void) {
+    for (size_t k = 0; k < COUNT; k++)
+        for (int i = 0; i < LINES[k].works; i++) {
+            LINES[k].ours(i);
+            LINES[k].plain(i);
+            if (!same()) {
+                fprintf(stderr, "bench: %s, work %d: the two differ\n", LINES[k].name, i);
+                return 0;
+            }
+        }
+    int done = ours.made == 0;
+    for (int i = 0; i < MESSAGES; i++)
+        done = done && ours.found[i].answer == 0 && ours.found[i].counter > 0 && ours.checked[i] == 0;
+    if (!done)
+        fprintf(stderr, "bench: a key, a signature or its check was refused\n");
+    return done;
+}
+
+// Records in which four bytes are changed.
+static int same_changed(void) {
+    static const uint8_t CHANGES[3][4] = {{0x80, 0x80, 0x80, 0x80}, {0xFF, 0xFF, 0xFF, 0x7F}, {0, 0, 0, 0}};
+    for (int i = 0; i < 24; i++) {
+        Bench changed = ours;
+        Signed here = ours.found[0], there = here;
+        const uint8_t *change = CHANGES[i % 3], *signature = changed.found[0].signature;
+        memcpy(changed.public_record + 1823 * (i / 3), change, 4);
+        int a = maesikkong_check(changed.public_record, PUBLIC, changed.messages[0], MESSAGE, signature, SIGNATURE);
+        int b = plain_check(changed.public_record, changed.messages[0], MESSAGE, signature);
+        memcpy(changed.found[0].signature + 323 * (i / 3), change, 4);
+        int c = maesikkong_check(ours.public_record, PUBLIC, changed.messages[0], MESSAGE, signature, SIGNATURE);
+        int d = plain_check(ours.public_record, changed.messages[0], MESSAGE, signature);
+        memcpy(changed.secret_record + 703 * (i / 3), change, 4);
+        here.answer = maesikkong_sign(changed.secret_record, SECRET, changed.messages[0], MESSAGE, changed.r[0], SEED, i, here.signature,
+                                      SIGNATURE, &here.counter);
+        there.answer = plain_sign(changed.secret_record, changed.messages[0], MESSAGE, changed.r[0], i, there.signature, &there.counter);
+        if (a != b || c != d || memcmp(&here, &there, sizeof here) != 0) {
+            fprintf(stderr, "bench: change %d: the two answer %d %d, %d %d, %d %d\n", i, a, b, c, d, here.answer, there.answer);
+            return 0;
+        }
+    }
+    return 1;
+}
+
+// ---- the measurement
+
+// Time of this process alone.
+static double microseconds(void (*work)(int), int i) {
+    struct timespec from, to;
+    clock_gettime(CLOCK_PROCESS_CPUTIME_ID, &from);
+    work(i);
+    clock_gettime(CLOCK_PROCESS_CPUTIME_ID, &to);
+    return (to.tv_sec - from.tv_sec) * 1e6 + (to.tv_nsec - from.tv_nsec) / 1e3;
+}
+
+static void measure(const Line *line) {
+    double a = 0, b = 0;
+    for (int i = 0; i < line->works; i++) {
+        double best_a = 1e18, best_b = 1e18;
+        for (int round = 0; round < line->rounds; round++) {
+            double x = microseconds(line->ours, i), y = microseconds(line->plain, i);
+            best_a = x < best_a ? x : best_a;
+            best_b = y < best_b ? y : best_b;
+        }
+        a += best_a;
+        b += best_b;
+    }
+    int count = line->works * line->times;
+    printf("%-36s %8.2f %14.2f %14.2f\n", line->name, a / b, a / count, b / count);
+    fflush(stdout);
+}
+
+// A secret coefficient: from −16 to 16, those about 0 more often.
+static uint8_t small(const uint8_t *bytes) {
+    return bytes[0] % 17 + bytes[1] % 17 - 16;
 }
 
 int main(void) {
     for (int i = 0; i < MUCH; i++)
-        ours.message[i] = i * 7 + i / 251;
+        ours.bytes[i] = i * 7 + i / 251;
+    plain_shake(ours.bytes, 1, ours.out, MUCH);
+    for (int i = 0; i < N; i++)
+        ours.s[i] = small(ours.out + 2 * i);
+    for (int i = 0; i < K * N; i++)
+        ours.e[i] = small(ours.out + 2 * (N + i));
+    memcpy(ours.messages, ours.out + 10 * N, sizeof ours.messages);
+    memcpy(ours.r, ours.out + 20 * N, sizeof ours.r);
     theirs = ours;
-    int same = same_at_edges();
-    printf("Best of %d rounds:\n", ROUNDS);
-    printf("%-24s %14s %14s %8s\n", "", "ours, ns", "plain C, ns", "ratio");
-    for (size_t k = 0; k < sizeof LINES / sizeof LINES[0]; k++) {
-        const Line *line = &LINES[k];
-        double a = 1e18, b = 1e18;
-        for (int round = 0; round < ROUNDS; round++) {
-            double x = nanoseconds(line->ours), y = nanoseconds(line->plain);
-            a = x < a ? x : a;
-            b = y < b ? y : b;
-            same = same && memcmp(&ours, &theirs, sizeof ours) == 0;
-        }
-        printf("%-24s %14.0f %14.0f %8.2f\n", line->name, a / line->times, b / line->times, a / b);
+    if (!same_at_edges() || !same_works() || !same_changed()) {
+        fprintf(stderr, "bench: THE TWO DIFFER\n");
+        return 1;
     }
-    printf("The nanoseconds are absolute: of this machine, in this run. The ratio is ours / plain C.\n");
-    printf(same ? "Both computed the same bytes.\n" : "THE TWO DIFFER.\n");
-    return same ? 0 : 1;
+    printf("The proved functions and plain C computed the same bytes, counters and answers. Read the ratios: ours / plain C, gcc -O3.\n");
+    printf("The microseconds are absolute: of this machine, in this run.\n\n");
+    printf("%-36s %8s %14s %14s\n", "", "ratio", "ours, us", "plain C, us");
+    for (size_t k = 0; k < COUNT; k++)
+        measure(&LINES[k]);
+    if (!same()) {
+        fprintf(stderr, "bench: THE TWO DIFFER\n");
+        return 1;
+    }
+    return 0;
 }

@@ -1,2 +1,3 @@
 pub mod Expanding
+pub mod Polynomials
 pub mod Determined

@@ -1,2 +1,3 @@
 pub mod Lanes
 pub mod Row
+pub mod Polynomial

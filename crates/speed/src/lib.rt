@@ -1,4 +1,6 @@
-// What the bench calls from C: the permutation, SHAKE256, and a_1..a_k of a seed.
+// What the bench calls from C: the permutation, SHAKE256, a_1..a_k of a seed, and one polynomial packed, unpacked and multiplied.
+pub mod polynomial;
+
 use sets::Numbers;
 use sets::SetI;
 ghost use mathlib.Core.Path.{_≡_};

@@ -1,4 +1,4 @@
-// Keccak-f[1600], SHAKE256 and the expansion of a seed in plain C, for a machine whose lowest byte comes first.
+// Keccak-f[1600] and SHAKE256 in plain C.
 #include "plain.h"
 
 #include <string.h>
@@ -65,57 +65,66 @@ static void add_block(uint64_t lanes[25], const uint8_t block[RATE]) {
     }
 }
 
-// The state that has absorbed the message and is ready to be squeezed.
-static void absorb(uint64_t lanes[25], const uint8_t *message, size_t message_len) {
-    uint8_t last[RATE] = {0};
-    for (; message_len >= RATE; message += RATE, message_len -= RATE) {
-        add_block(lanes, message);
-        plain_permute(lanes);
+void plain_absorb(Plain_sponge *sponge, const uint8_t *bytes, size_t len) {
+    uint8_t *block = (uint8_t *)sponge->lanes;
+    while (len > 0) {
+        if (sponge->at == 0 && len >= RATE) {
+            add_block(sponge->lanes, bytes);
+            plain_permute(sponge->lanes);
+            bytes += RATE;
+            len -= RATE;
+            continue;
+        }
+        size_t part = RATE - sponge->at;
+        if (part > len)
+            part = len;
+        for (size_t i = 0; i < part; i++)
+            block[sponge->at + i] ^= bytes[i];
+        sponge->at += part;
+        bytes += part;
+        len -= part;
+        if (sponge->at == RATE) {
+            plain_permute(sponge->lanes);
+            sponge->at = 0;
+        }
     }
-    if (message_len > 0)
-        memcpy(last, message, message_len);
-    last[message_len] ^= 0x1F;
-    last[RATE - 1] ^= 0x80;
-    add_block(lanes, last);
-    plain_permute(lanes);
+}
+
+void plain_finish(Plain_sponge *sponge) {
+    uint8_t *block = (uint8_t *)sponge->lanes;
+    block[sponge->at] ^= 0x1F;
+    block[RATE - 1] ^= 0x80;
+    plain_permute(sponge->lanes);
+    sponge->at = 0;
+}
+
+void plain_squeeze(Plain_sponge *sponge, uint8_t *out, size_t len) {
+    const uint8_t *block = (const uint8_t *)sponge->lanes;
+    while (len > 0) {
+        if (sponge->at == RATE) {
+            plain_permute(sponge->lanes);
+            sponge->at = 0;
+        }
+        size_t part = RATE - sponge->at;
+        if (part > len)
+            part = len;
+        memcpy(out, block + sponge->at, part);
+        sponge->at += part;
+        out += part;
+        len -= part;
+    }
+}
+
+Plain_sponge plain_stream(int j) {
+    Plain_sponge sponge = {{0}, 0};
+    const uint8_t mark[2] = {0x53, 0x10 + j};
+    plain_absorb(&sponge, mark, 2);
+    return sponge;
 }
 
 void plain_shake(const uint8_t *message, size_t message_len, uint8_t *out, size_t out_len) {
-    uint64_t lanes[25] = {0};
-    absorb(lanes, message, message_len);
-    for (; out_len > RATE; out += RATE, out_len -= RATE) {
-        memcpy(out, lanes, RATE);
-        plain_permute(lanes);
-    }
-    memcpy(out, lanes, out_len);
-}
-
-#define Q 343576577u
-#define SEED_MOST 64
-
-// Candidates of 4 bytes, low 29 bits, range q, a block at a time. One that is out of range is skipped while enough remain after it.
-void plain_expand(const uint8_t *seed, size_t seed_len, uint32_t a[A_VALUES]) {
-    uint64_t lanes[25] = {0};
-    uint8_t message[2 + SEED_MOST] = {0x53, 0x11}, block[RATE];
-    memcpy(message + 2, seed, seed_len);
-    absorb(lanes, message, 2 + seed_len);
-    size_t taken = 0, remaining = 4 * A_VALUES;
-    for (;;) {
-        memcpy(block, lanes, RATE);
-        for (int at = 0; at < RATE; at += 4) {
-            uint32_t candidate;
-            memcpy(&candidate, block + at, 4);
-            candidate &= (1u << 29) - 1;
-            remaining--;
-            if (candidate >= Q) {
-                if (remaining >= A_VALUES - taken)
-                    continue;
-                candidate -= Q;
-            }
-            a[taken++] = candidate;
-            if (taken == A_VALUES)
-                return;
-        }
-        plain_permute(lanes);
-    }
+    Plain_sponge sponge = {{0}, 0};
+    plain_absorb(&sponge, message, message_len);
+    plain_finish(&sponge);
+    plain_squeeze(&sponge, out, out_len);
 }
