@@ -1,9 +1,9 @@
 -- Demand 1: a refusal's number is that of the first test that fails, in the order in which the entry's tests stand; where the
 -- numbers rise that is the lowest number that applies; and a refusal leaves each output as it was.
 -- An entry answers `answer` of its list of tests and leaves `after` that answer in each output, so the laws are of lists of tests.
--- Signing's search comes after its tests: what it leaves on refusal is `sign-untouched`. The lists of all entries are gathered in
+-- Signing's search comes after its tests: what it leaves on refusal is `sign-untouched`. The lists of the entries are gathered in
 -- `entries`: in none has a test the number 0; `rising` has those whose numbers rise, so that they answer the lowest that applies.
--- Opening and reading an envelope test in an order of their own.
+-- Opening and reading an envelope test in an order of their own, and the program makes one test before opening's.
 -- Assumes nothing.
 use mathlib.Core.Path.{_≡_, refl, sym, ap, subst, _∙_}
 use mathlib.Core.Bool.{Bool, true, false, cond, true≢false}
@@ -15,6 +15,7 @@ use lib.Dec.{lit≤}
 use lib.IntN.{ℤ}
 use Rattle.whole.specs.Refusal.{Test, answer, after}
 use Rattle.sets.specs.declared.Numbers.{Numbers}
+use Rattle.sampling.specs.Lent.{testsA, testsY, testsEnc}
 use Rattle.records.specs.Public.{readPublicTests, writePublicTests}
 use Rattle.records.specs.Secret.{readSecretTests, writeSecretTests}
 use Rattle.records.specs.Signature.{readSignatureTests, writeSignatureTests}
@@ -106,6 +107,9 @@ sign-untouched set (suc refusal) f number old h = (refl, refl)
 module _ (set : Numbers) where
   -- in no list has a test the number 0
   pub record Entries : Type 0 where
+    pub take-a : (stream : List ℕ) (n : ℕ) → Numbered (testsA stream n)
+    pub take-y : (stream : List ℕ) (n : ℕ) → Numbered (testsY stream n)
+    pub take-positions : (stream : List ℕ) (n signs : ℕ) → Numbered (testsEnc set stream n signs)
     pub read-public : (public : List ℕ) (t seed : ℕ) → Numbered (readPublicTests set public t seed)
     pub write-public : (t seedA : List ℕ) (n : ℕ) → Numbered (writePublicTests set t seedA n)
     pub read-secret : (secret : List ℕ) (a b c d e : ℕ) → Numbered (readSecretTests set secret a b c d e)
@@ -123,6 +127,9 @@ module _ (set : Numbers) where
   unfolding readPublicTests writePublicTests readSecretTests writeSecretTests readSignatureTests writeSignatureTests makeKeyTests signTests checkTests writeTests readTests openTests headTests
   entries =
       record {
+        take-a = λ stream n. more 0 refl none;
+        take-y = λ stream n. more 0 refl none;
+        take-positions = λ stream n signs. more 0 refl (more 0 refl (more 0 refl none));
         read-public = λ public t seed. more 0 refl (more 1 refl (more 4 refl none));
         write-public = λ t seedA n. more 0 refl (more 4 refl none);
         read-secret = λ secret a b c d e. more 0 refl (more 1 refl (more 4 refl none));
@@ -139,15 +146,33 @@ module _ (set : Numbers) where
 
   -- the lists that answer the lowest number that applies
   pub record RisingEntries : Type 0 where
+    pub take-a : (stream : List ℕ) (n : ℕ) → Rising (testsA stream n)
+    pub take-y : (stream : List ℕ) (n : ℕ) → Rising (testsY stream n)
+    pub take-positions : (stream : List ℕ) (n signs : ℕ) → Rising (testsEnc set stream n signs)
+    pub read-public : (public : List ℕ) (t seed : ℕ) → Rising (readPublicTests set public t seed)
+    pub write-public : (t seedA : List ℕ) (n : ℕ) → Rising (writePublicTests set t seedA n)
+    pub read-secret : (secret : List ℕ) (a b c d e : ℕ) → Rising (readSecretTests set secret a b c d e)
+    pub write-secret : (s e seedA seedY g : List ℕ) (n : ℕ) → Rising (writeSecretTests set s e seedA seedY g n)
+    pub read-signature : (signature : List ℕ) (z c : ℕ) → Rising (readSignatureTests set signature z c)
+    pub write-signature : (z : List ℤ) (c′ : List ℕ) (n : ℕ) → Rising (writeSignatureTests set z c′ n)
     pub make-key : (s e seedA seedY : List ℕ) (p q : ℕ) → Rising (makeKeyTests set s e seedA seedY p q)
     pub sign : (secret : List ℕ) (m r b n : ℕ) → Rising (signTests set secret m r b n)
     pub check : (public message signature : List ℕ) → Rising (checkTests set public message signature)
     pub write-envelope : (roster signature : List ℕ) (n : ℕ) → Rising (writeTests set roster signature n)
 
   pub rising : RisingEntries
-  unfolding makeKeyTests signTests checkTests writeTests
+  unfolding readPublicTests writePublicTests readSecretTests writeSecretTests readSignatureTests writeSignatureTests makeKeyTests signTests checkTests writeTests
   rising =
       record {
+        take-a = λ stream n. one;
+        take-y = λ stream n. one;
+        take-positions = λ stream n signs. up (lit≤ tt) (up (lit≤ tt) one);
+        read-public = λ public t seed. up (lit≤ tt) (up (lit≤ tt) one);
+        write-public = λ t seedA n. up (lit≤ tt) one;
+        read-secret = λ secret a b c d e. up (lit≤ tt) (up (lit≤ tt) one);
+        write-secret = λ s e seedA seedY g n. up (lit≤ tt) one;
+        read-signature = λ signature z c. up (lit≤ tt) (up (lit≤ tt) one);
+        write-signature = λ z c′ n. up (lit≤ tt) one;
         make-key = λ s e seedA seedY p q. up (lit≤ tt) (up (lit≤ tt) (up (lit≤ tt) one));
         sign = λ secret m r b n. up (lit≤ tt) (up (lit≤ tt) (up (lit≤ tt) (up (lit≤ tt) (up (lit≤ tt) (up (lit≤ tt) one)))));
         check = λ public message signature. up (lit≤ tt) (up (lit≤ tt) (up (lit≤ tt) (up (lit≤ tt) (up (lit≤ tt) (up (lit≤ tt) one)))));

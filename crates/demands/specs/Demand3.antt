@@ -6,20 +6,21 @@
 --     signed-exactly      signing answers a signature exactly if its inputs pass their tests and some counter from 1 to the budget passes
 --     none-exactly        signing answers 8 exactly if its inputs pass their tests and no counter from 1 to the budget passes
 -- The first holds for every good set and the second for every set. The last two hold where no high part leaves a signed byte: then
--- signing never answers 10 (`never-10`). In set I none does (`set-I-high`: 41 is the largest). All are stated for set I at the end.
+-- signing never answers 10 (`never-10`), nor does checking (`check-never-10`). In set I none does (`set-I-high`: 41 is the largest). All are
+-- stated for set I at the end.
 -- What the names stand for is in the specs of `keys`, `signing` and `checking`.
 -- Assumes nothing.
 use mathlib.Core.Path.{_≡_, refl, sym, ap, ap₂, subst, _∙_}
-use mathlib.Core.Bool.{Bool, true, false, cond, _&&_}
+use mathlib.Core.Bool.{Bool, true, false, cond, _&&_, true≢false}
 use mathlib.Core.Logic.{_⊎_, inl, inr, ⊎-elim, _↔_}
-use mathlib.Core.List.{List, []}
+use mathlib.Core.List.{List, [], _∷_}
 use Prim.Native.Nat.{ℕ, zero, suc, _+_, _*_, _/_, _^_, _≤_, _<_}
 use native.Mathlib.Omega.{arith}
 use lib.Dec.{eqb, leb, lit≤, lit<}
 use lib.ListN.{length}
 use lib.IntN.{ℤ, pos, negsuc, natAbs}
 use borrow.Author.Tests.{eqb-true, leb-true, lt-ltb}
-use Rattle.whole.specs.Refusal.{answer, every}
+use Rattle.whole.specs.Refusal.{_orElse_, answer, every}
 use Rattle.whole.specs.RefusalLaws.{both-first, both-second, answer-first, answer-rest, every-joined, every-map, every-always, eachBelow-all, answer-most}
 use Rattle.rounding.specs.Parts.{high, high-bound}
 use Rattle.rounding.specs.Tests.{fitsByte}
@@ -40,7 +41,9 @@ use Rattle.signing.specs.Attempt.{Key, Outcome, passes, fails, overflows, attem
 use Rattle.signing.specs.Search.{Found, found, none, overflow, search}
 use Rattle.signing.specs.SearchLaws.{Stopped, found-smallest, none-fails, fails-none, overflow-somewhere}
 use Rattle.signing.specs.Sign.{keyOf, signTests, signSearch, signNumber, signSignature, signCounter}
-use Rattle.checking.specs.Check.{checkTests}
+use Rattle.records.specs.Public.{tOf, seedAOf}
+use Rattle.records.specs.Signature.{zOf, challengeOf}
+use Rattle.checking.specs.Check.{checkTests, checkW, checkHighs}
 use Rattle.demands.specs.Holds.{madeKey, accepted}
 
 -- ---- the key that signing reads is the one that key making made
@@ -273,6 +276,25 @@ unfolding attempt
 never-overflows set q-some h key digest rand counter e =
     outcome-fits set key digest (yOf set rand counter) (vOf set (key .seedA) (yOf set rand counter)) (highs-fit set q-some h (vOf set (key .seedA) (yOf set rand counter))) e
 
+-- seven tests of which the sixth, with the number 10, passes
+not-10 : (a b c d e f g : Bool) → f ≡ true
+    → answer ((a orElse 1) ∷ (b orElse 2) ∷ (c orElse 3) ∷ (d orElse 5) ∷ (e orElse 9) ∷ (f orElse 10) ∷ (g orElse 11) ∷ []) ≡ 10 → ⊥
+unfolding answer
+not-10 false b c d e f g h x = absurd (omega arith)
+not-10 true false c d e f g h x = absurd (omega arith)
+not-10 true true false d e f g h x = absurd (omega arith)
+not-10 true true true false e f g h x = absurd (omega arith)
+not-10 true true true true false f g h x = absurd (omega arith)
+not-10 true true true true true false g h x = true≢false (sym h)
+not-10 true true true true true true false h x = absurd (omega arith)
+not-10 true true true true true true true h x = absurd (omega arith)
+
+-- and checking never answers 10
+pub check-never-10 : (set : Numbers) → 0 < set .q → highMost set ≤ 127 → (public message signature : List ℕ) → answer (checkTests set public message signature) ≡ 10 → ⊥
+unfolding checkTests checkHighs
+check-never-10 set q-some h public message signature =
+    not-10 _ _ _ _ _ _ _ (highs-fit set q-some h (checkW set (seedAOf set public) (tOf set public) (zOf set signature) (challengeOf set signature)))
+
 -- in set I a high part is at most 41 in size
 pub set-I-high : highMost setI ≡ 41
 set-I-high = refl
@@ -339,6 +361,9 @@ module _ (message r : List ℕ) (budget signatureLength : ℕ) where
   set-I-accepts s e seedA seedY = demand-3 setI s e seedA seedY message r budget signatureLength setI-good
 
   module _ (secret : List ℕ) where
+    pub set-I-never-10 : number setI secret message r budget signatureLength ≡ 10 → ⊥
+    set-I-never-10 = never-10 setI (lit< tt) (lit≤ tt) secret message r budget signatureLength
+
     pub set-I-smallest : number setI secret message r budget signatureLength ≡ 0
         → (z : List ℤ) × (c′ : List ℕ) × Stopped (attempts setI secret message r budget signatureLength) budget 1 (counter setI secret message r budget signatureLength) (passes z c′)
         × ((old : List ℕ) → signature setI secret message r budget signatureLength old ≡ signatureRecord setI z c′)
@@ -351,3 +376,6 @@ module _ (message r : List ℕ) (budget signatureLength : ℕ) where
     pub set-I-none : (number setI secret message r budget signatureLength ≡ 8)
         ↔ ((tests setI secret message r budget signatureLength ≡ 0) × NonePasses setI secret message r budget signatureLength)
     set-I-none = none-exactly setI (lit< tt) (lit≤ tt) secret message r budget signatureLength
+
+pub set-I-check-never-10 : (public message signature : List ℕ) → answer (checkTests setI public message signature) ≡ 10 → ⊥
+set-I-check-never-10 = check-never-10 setI (lit< tt) (lit≤ tt)

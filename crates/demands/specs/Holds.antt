@@ -1,4 +1,4 @@
--- Demand 3, for every good set: if key making was accepted and signing found a signature, checking accepts it.
+-- For every good set: an attempt that passes with the key that was made gives a z and a c' that checking accepts.
 -- Assumes nothing.
 use mathlib.Core.Path.{_≡_, refl, sym, ap, ap₂, subst, _∙_}
 use mathlib.Core.Bool.{Bool, true, false, cond}

@@ -21,7 +21,7 @@ pub enum KeyRecord {
     Length,
     // 2: the mark is wrong
     Mark,
-    // 5: a secret byte is −128, or a t coefficient is not from 0 to q − 1
+    // 5: a value is outside its range: a secret byte of −128, a t from q on
     Value,
 }
 

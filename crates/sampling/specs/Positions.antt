@@ -1,6 +1,6 @@
--- The candidate rule for positions with signs. Candidates come in stream order. One whose position is free is taken. One whose
--- position is taken already is skipped if at least as many candidates remain after it as positions are still needed; otherwise
--- the next free position upward, from n − 1 on to 0, gets its sign. Positions are answered in the order drawn.
+-- The candidate rule for positions with signs, over the candidates in the order of the stream. A candidate gets its position if that is
+-- free. If not it is passed over as long as those behind it can fill every place that is left; once they cannot, it gets the free
+-- position that comes next, counting up, with 0 after n − 1. The answer is in the order of drawing.
 -- Assumes nothing: these are definitions, and one sum that they give.
 use mathlib.Core.Path.{_≡_, refl}
 use mathlib.Core.Bool.{Bool, true, false, cond, not, _||_}

@@ -1,6 +1,6 @@
--- The candidate rule for values below a range. Candidates come in stream order. One that is in range is taken. One that is out
--- of range is skipped if at least as many candidates remain after it as values are still needed; otherwise the range is
--- subtracted from it and it is taken.
+-- The candidate rule for values below a range, over the candidates in the order of the stream. A candidate below the range is a
+-- value. Any other is passed over as long as those behind it can fill every place that is left; once they cannot, it is a value less
+-- the range.
 -- Assumes nothing: these are definitions, and one sum that they give.
 use mathlib.Core.Path.{_≡_, refl}
 use mathlib.Core.Bool.{Bool, true, false, cond, _||_}

@@ -1,6 +1,6 @@
 -- What a set's numbers have to satisfy: the conditions on which the ring, rounding, packing, sampling and demand 3 rest.
--- A set is added by proving them of its numbers. One theorem asks more: that signing never answers 10 rests on the bound on the high
--- part, which is computed from q and d.
+-- A set is added by proving them of its numbers. Theorems on 10, and on when signing answers 8, ask more: the bound on the high part,
+-- which is computed from q and d.
 -- Assumes nothing: these are definitions.
 use mathlib.Core.Path.{_≡_}
 use Prim.Native.Nat.{_+_, _*_, _-_, _%_, _^_, _≤_, _<_}
