@@ -4,6 +4,7 @@
 #include <string.h>
 #include <time.h>
 
+#include "maesikkong.h"
 #include "plain.h"
 
 // The proved ones: a slice is a pointer and a length.
@@ -13,13 +14,6 @@ void speed_expand(const uint8_t *seed, size_t seed_len, uint32_t *a, size_t coun
 void speed_pack(const uint32_t *values, size_t count, uint8_t *out, size_t out_len);
 void speed_unpack(const uint8_t *bytes, size_t len, uint32_t *out, size_t count);
 void speed_multiply(const uint32_t *a, size_t a_count, const uint32_t *b, size_t b_count, uint32_t *out, size_t count);
-uint8_t maesikkong_make_key(const uint8_t *s, size_t s_len, const uint8_t *e, size_t e_len, const uint8_t *seed_a, size_t seed_a_len,
-                            const uint8_t *seed_y, size_t seed_y_len, uint8_t *public_record, size_t public_len, uint8_t *secret_record,
-                            size_t secret_len);
-uint8_t maesikkong_sign(const uint8_t *secret_record, size_t secret_len, const uint8_t *message, size_t message_len, const uint8_t *r,
-                        size_t r_len, uint32_t budget, uint8_t *signature, size_t signature_len, uint16_t *counter);
-uint8_t maesikkong_check(const uint8_t *public_record, size_t public_len, const uint8_t *message, size_t message_len,
-                         const uint8_t *signature, size_t signature_len);
 
 #define MUCH 65536
 #define PERMUTATIONS 1000

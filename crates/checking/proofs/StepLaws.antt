@@ -13,18 +13,16 @@ use Rattle.ring.specs.Lists.{naturals, residues, length-residues, residues-at, 
 use Rattle.ring.specs.Sparse.{sparse}
 use Rattle.ring.specs.Asks.{Factors, SparseProduct, TwoResidues}
 use Rattle.sets.specs.declared.Numbers.{Numbers}
+use Rattle.sets.specs.GoodLaws.{q-some}
 use Rattle.checking.specs.Asks.{ForW}
 use Rattle.checking.specs.Steps.{wFrom}
 
 module _ {set : Numbers} {a t zr ps : List ℕ} {ss : List ℤ} {w tc : List ℕ} (asked : ForW set a t zr ps ss w tc) where
-  q-some : 0 < set .q
-  q-some = omega (arith, asked .good .q-large)
-
   pub product-asks : Factors (set .q) a zr w
   product-asks =
       record {
         small = omega (arith, asked .good .q-small);
-        some = q-some;
+        some = q-some (asked .good);
         a-long = asked .a-is .long ∙ sym (asked .w-long);
         b-long = asked .z-is .long ∙ sym (asked .w-long);
         a-below = asked .a-is .below;
@@ -34,7 +32,7 @@ module _ {set : Numbers} {a t zr ps : List ℕ} {ss : List ℤ} {w tc : List ℕ
   pub sparse-asks : SparseProduct (set .q) t ps ss tc
   sparse-asks =
       record {
-        some = q-some;
+        some = q-some (asked .good);
         long = asked .t-is .long ∙ sym (asked .tc-long);
         below = asked .t-is .below;
         terms = rw (asked .t-is .long) (asked .c-is .terms);
@@ -48,8 +46,8 @@ module _ {set : Numbers} {a t zr ps : List ℕ} {ss : List ℤ} {w tc : List ℕ
     subtract-asks =
         record {
           small = asked .good .q-small;
-          a-below = rw az (residues-below (set .q) (length w) _ q-some);
-          b-below = rw tc-is (residues-below (set .q) (length tc) _ q-some);
+          a-below = rw az (residues-below (set .q) (length w) _ (q-some (asked .good)));
+          b-below = rw tc-is (residues-below (set .q) (length tc) _ (q-some (asked .good)));
           long = rw (az, tc-is, length-residues, length-residues, asked .w-long) (asked .tc-long);
         }
 
@@ -58,13 +56,13 @@ module _ {set : Numbers} {a t zr ps : List ℕ} {ss : List ℤ} {w tc : List ℕ
     difference-is e =
         e ∙ ap (λ (n : ℕ). residues (set .q) n (λ k. naturals w₁ k -ℤ naturals tc₁ k)) long
         ∙ table-ext (set .n) _ _
-        (λ k l. residue-eq (set .q) _ _ q-some (same-minus (product k l) (challenge k l)))
+        (λ k l. residue-eq (set .q) _ _ (q-some (asked .good)) (same-minus (product k l) (challenge k l)))
       where
         long : length w₁ ≡ set .n
         long = ap length az ∙ length-residues (set .q) (length w) _ ∙ asked .w-long
 
         product : (k : ℕ) → k < set .n → Same (set .q) (naturals w₁ k) (mul (set .n) (naturals a) (naturals zr) k)
-        product k l = rw (az, asked .w-long) (residues-at (set .q) (set .n) (mul (set .n) (naturals a) (naturals zr)) k q-some l)
+        product k l = rw (az, asked .w-long) (residues-at (set .q) (set .n) (mul (set .n) (naturals a) (naturals zr)) k (q-some (asked .good)) l)
 
         challenge : (k : ℕ) → k < set .n → Same (set .q) (naturals tc₁ k) (mul (set .n) (naturals t) (sparse ps ss) k)
-        challenge k l = rw (tc-is, asked .tc-long) (residues-at (set .q) (set .n) (mul (set .n) (naturals t) (sparse ps ss)) k q-some l)
+        challenge k l = rw (tc-is, asked .tc-long) (residues-at (set .q) (set .n) (mul (set .n) (naturals t) (sparse ps ss)) k (q-some (asked .good)) l)

@@ -26,6 +26,7 @@ use Rattle.ring.specs.Product.{mul, mul-same}
 use Rattle.ring.specs.Lists.{naturals, integers, residues, length-residues, residues-at, residues-below}
 use Rattle.sets.specs.declared.Numbers.{Numbers}
 use Rattle.sets.specs.Good.{Good}
+use Rattle.sets.specs.GoodLaws.{q-some}
 use Rattle.sampling.specs.Positions.{Drawn, positionsOf, signsOf, polynomialOf}
 use Rattle.sampling.specs.Streams.{aOf, encOf, challenge, messageDigest, keyDigest}
 use Rattle.sampling.specs.StreamsLaws.{shake-below, encOf-length, encOf-signed}
@@ -40,9 +41,6 @@ use Rattle.checking.specs.declared.hash.Highs.{Highs}
 use Rattle.checking.specs.Check.{checkW, checkHighs, publicG}
 use Rattle.checking.specs.Asks.{ForEachT, ForResidues, ForHighs, ForTested}
 use Rattle.checking.specs.Steps.{wFrom, highParts, highsUpto, hashHighs, hashTests, workTests, Reached}
-
-q-some : (set : Numbers) → Good set → 0 < set .q
-q-some set good = omega (arith, good .q-large)
 
 -- ---- z
 
@@ -60,7 +58,7 @@ module _ {set : Numbers} {signature : List ℕ} {z : List ℤ} {zr : List ℕ} (
   small-z =
       record {
         small = asked .room .signs .good .q-small;
-        some = q-some set (asked .room .signs .good);
+        some = q-some (asked .room .signs .good);
         within = rw e (z-within set (asked .room .signs .good) (zOf set signature) (asked .z-inside));
         long = ap length e ∙ zOf-length set signature ∙ sym (kept ∙ asked .room .scratch-long);
       }
@@ -147,13 +145,13 @@ wFrom-checkW : (set : Numbers) → Good set → (seedA : List ℕ) (t : ℕ → 
 unfolding wFrom checkW
 wFrom-checkW set good seedA t z c′ i =
     table-ext (set .n) _ _
-    (λ k l. residue-eq (set .q) _ _ (q-some set good) (same-minus (product k l) (same-refl (set .q) (mul (set .n) (naturals (t i)) (polynomialOf (encOf set c′)) k))))
+    (λ k l. residue-eq (set .q) _ _ (q-some good) (same-minus (product k l) (same-refl (set .q) (mul (set .n) (naturals (t i)) (polynomialOf (encOf set c′)) k))))
   where
     product : (k : ℕ) → k < set .n
         → Same (set .q) (mul (set .n) (naturals (aOf set seedA i)) (naturals (residues (set .q) (set .n) (integers z))) k) (mul (set .n) (naturals (aOf set seedA i)) (integers z) k)
     product k l =
         mul-same (set .q) (set .n) _ _ _ _ k l (λ j m. same-refl (set .q) (naturals (aOf set seedA i) j))
-        (λ j m. residues-at (set .q) (set .n) (integers z) j (q-some set good) m)
+        (λ j m. residues-at (set .q) (set .n) (integers z) j (q-some good) m)
 
 highs-check : (set : Numbers) → Good set → (public : List ℕ) (z : List ℤ) (c′ : List ℕ)
     → hashHighs set public (residues (set .q) (set .n) (integers z)) c′ ≡ checkHighs set (seedAOf set public) (tOf set public) z c′
@@ -183,7 +181,7 @@ module _ {set : Numbers} {public signature : List ℕ} {z : List ℤ} {zr t a w 
         z-is =
             record {
               long = ap length e ∙ length-residues (set .q) (set .n) _;
-              below = rw e (residues-below (set .q) (set .n) _ (q-some set (asked .scratch .room .signs .good)));
+              below = rw e (residues-below (set .q) (set .n) _ (q-some (asked .scratch .room .signs .good)));
             };
         t-long = asked .scratch .t-long;
         places = asked .scratch .places;

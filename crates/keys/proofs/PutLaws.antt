@@ -8,38 +8,26 @@ use native.Mathlib.Numerals.{add-one}
 use native.Mathlib.Omega.{arith}
 use lib.ListN.{length, take, drop, length-append}
 use lib.Seq.{drop-drop, length-take-le}
-use Rattle.whole.specs.Below.{Below, below-more, below-take}
+use Rattle.whole.specs.Below.{Below, below-take}
 use Rattle.whole.specs.Parts.{part-length}
 use Rattle.whole.specs.Table.{joined, joined-length}
 use Rattle.whole.specs.Written.{Written, written-kept, written-more, written-length}
 use Rattle.packing.specs.Digits.{packed}
-use Rattle.shake.specs.Sponge.{squeezed}
 use Rattle.ring.specs.Lists.{length-residues, residues-below}
 use Rattle.sets.specs.declared.Numbers.{Numbers}
 use Rattle.sets.specs.Good.{Good}
+use Rattle.sets.specs.GoodLaws.{q-some}
 use Rattle.sampling.specs.declared.drawn.DrawA.{DrawA}
-use Rattle.sampling.specs.Candidates.{candidates}
-use Rattle.sampling.specs.CandidatesLaws.{candidates-below}
-use Rattle.sampling.specs.ValuesLaws.{values-below}
 use Rattle.sampling.specs.Streams.{allA}
+use Rattle.sampling.specs.DrawALaws.{left-below}
 use Rattle.sampling.specs.DrawA.{valuesLeft, ValidA, StartedA, AfterA}
 use Rattle.records.specs.Layout.{polynomial, tBytes}
-use Rattle.records.specs.PublicLaws.{row-fits, packed-t-length, polynomial-length}
+use Rattle.records.specs.PublicLaws.{row-fits, packed-t-length}
 use Rattle.records.specs.PublicPlaces.{PacksT}
 use Rattle.records.specs.Secret.{eOf}
 use Rattle.records.specs.SizeLaws.{stretch-fits}
 use Rattle.keys.specs.Asks.{ForT, ForNext, ForPut}
 use Rattle.keys.specs.Steps.{tFrom, OneMore, packedUpto}
-
-q-some : (set : Numbers) → Good set → 0 < set .q
-q-some set good = omega (arith, good .q-large)
-
--- what a stream still gives is below q
-left-below : (set : Numbers) → Good set → (d : DrawA) → Below (set .q) (valuesLeft set d)
-unfolding valuesLeft
-left-below set good d =
-    values-below (set .q) (d .need) (candidates 4 (set .«t_bits») (squeezed (4 * d .left) (d .sponge)))
-    (below-more _ (good .t-once) (candidates-below 4 (set .«t_bits») (squeezed (4 * d .left) (d .sponge))))
 
 tFrom-length : (set : Numbers) (a sr e : List ℕ) → length (tFrom set a sr e) ≡ set .n
 unfolding tFrom
@@ -47,7 +35,7 @@ tFrom-length set a sr e = length-residues (set .q) (set .n) _
 
 tFrom-below : (set : Numbers) → Good set → (a sr e : List ℕ) → Below (set .q) (tFrom set a sr e)
 unfolding tFrom
-tFrom-below set good a sr e = residues-below (set .q) (set .n) _ (q-some set good)
+tFrom-below set good a sr e = residues-below (set .q) (set .n) _ (q-some good)
 
 -- ---- one t
 

@@ -6,32 +6,26 @@ use Prim.Native.Nat.{ℕ, _<_}
 use native.Mathlib.Omega.{arith}
 use lib.IntN.{_+ℤ_}
 use lib.ListN.{length}
-use Rattle.whole.specs.Residue.{residue, Same, same-refl, same-sym, same-add, residue-same, residue-eq}
-use Rattle.whole.specs.Table.{table-ext, getD-table}
-use Rattle.ring.specs.Product.{Poly, mul, mul-same}
-use Rattle.ring.specs.Lists.{naturals, signedBytes, residues, length-residues, residues-below}
+use Rattle.whole.specs.Residue.{Same, same-refl, same-add, residue-eq}
+use Rattle.whole.specs.Table.{table-ext}
+use Rattle.ring.specs.Product.{mul, mul-same}
+use Rattle.ring.specs.Lists.{naturals, signedBytes, residues, length-residues, residues-at, residues-below}
 use Rattle.ring.specs.Asks.{Factors, WithBytes}
 use Rattle.sets.specs.declared.Numbers.{Numbers}
 use Rattle.sets.specs.Good.{Good}
+use Rattle.sets.specs.GoodLaws.{q-some}
 use Rattle.sampling.specs.Streams.{aOf}
 use Rattle.records.specs.Secret.{eOf}
 use Rattle.keys.specs.Key.{keyT}
 use Rattle.keys.specs.Asks.{ForT}
 use Rattle.keys.specs.Steps.{tFrom}
 
--- a residue in place of a coefficient is congruent to it
-residues-at : (q n : ℕ) (f : Poly) (k : ℕ) → 0 < q → k < n → Same q (naturals (residues q n f) k) (f k)
-residues-at q n f k h l = rw (getD-table n k (λ j. residue q (f j)) 0 l) (same-sym (residue-same q (f k) h))
-
-q-some : (set : Numbers) → Good set → 0 < set .q
-q-some set good = omega (arith, good .q-large)
-
 module _ {set : Numbers} {a sr e t : List ℕ} (asked : ForT set a sr e t) where
   pub product-asks : Factors (set .q) a sr t
   product-asks =
       record {
         small = omega (arith, asked .good .q-small);
-        some = q-some set (asked .good);
+        some = q-some (asked .good);
         a-long = asked .a-is .long ∙ sym (asked .t-long);
         b-long = asked .s-is .long ∙ sym (asked .t-long);
         a-below = asked .a-is .below;
@@ -46,7 +40,7 @@ module _ {set : Numbers} {a sr e t : List ℕ} (asked : ForT set a sr e t) where
     sum-asks =
         record {
           bytes = record { small = asked .good .q-small; above = asked .good .q-large; long = asked .e-long ∙ sym long };
-          below = rw product-is (residues-below (set .q) (length t) _ (q-some set (asked .good)));
+          below = rw product-is (residues-below (set .q) (length t) _ (q-some (asked .good)));
         }
 
     pub sum-is : {t₂ : List ℕ} → t₂ ≡ residues (set .q) (length t₁) (λ k. naturals t₁ k +ℤ signedBytes e k) → t₂ ≡ tFrom set a sr e
@@ -54,11 +48,11 @@ module _ {set : Numbers} {a sr e t : List ℕ} (asked : ForT set a sr e t) where
     sum-is f =
         f ∙ ap (λ (n : ℕ). residues (set .q) n (λ k. naturals t₁ k +ℤ signedBytes e k)) long
         ∙ table-ext (set .n) _ _
-        (λ k l. residue-eq (set .q) _ _ (q-some set (asked .good)) (same-add (product k l) (same-refl (set .q) (signedBytes e k))))
+        (λ k l. residue-eq (set .q) _ _ (q-some (asked .good)) (same-add (product k l) (same-refl (set .q) (signedBytes e k))))
       where
         product : (k : ℕ) → k < set .n → Same (set .q) (naturals t₁ k) (mul (set .n) (naturals a) (naturals sr) k)
         product k l =
-            rw (product-is, asked .t-long) (residues-at (set .q) (set .n) (mul (set .n) (naturals a) (naturals sr)) k (q-some set (asked .good)) l)
+            rw (product-is, asked .t-long) (residues-at (set .q) (set .n) (mul (set .n) (naturals a) (naturals sr)) k (q-some (asked .good)) l)
 
 -- with s itself in place of its residues
 pub tFrom-keyT : (set : Numbers) → Good set → (s e seedA : List ℕ) (i : ℕ)
@@ -66,10 +60,10 @@ pub tFrom-keyT : (set : Numbers) → Good set → (s e seedA : List ℕ) (i : �
 unfolding tFrom keyT
 tFrom-keyT set good s e seedA i =
     table-ext (set .n) _ _
-    (λ k l. residue-eq (set .q) _ _ (q-some set good) (same-add (product k l) (same-refl (set .q) (signedBytes (eOf set e i) k))))
+    (λ k l. residue-eq (set .q) _ _ (q-some good) (same-add (product k l) (same-refl (set .q) (signedBytes (eOf set e i) k))))
   where
     product : (k : ℕ) → k < set .n
         → Same (set .q) (mul (set .n) (naturals (aOf set seedA i)) (naturals (residues (set .q) (set .n) (signedBytes s))) k) (mul (set .n) (naturals (aOf set seedA i)) (signedBytes s) k)
     product k l =
         mul-same (set .q) (set .n) _ _ _ _ k l (λ j m. same-refl (set .q) (naturals (aOf set seedA i) j))
-        (λ j m. residues-at (set .q) (set .n) (signedBytes s) j (q-some set good) m)
+        (λ j m. residues-at (set .q) (set .n) (signedBytes s) j (q-some good) m)

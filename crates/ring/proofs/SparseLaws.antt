@@ -1,7 +1,7 @@
 -- The code's sums over the positions of a sparse polynomial are coefficients of the product by it. Assumes nothing.
 use mathlib.Core.Path.{_≡_, refl, sym, ap, ap₂, subst, _∙_}
 use mathlib.Core.List.{List, [], _∷_}
-use mathlib.Core.Logic.{inl, inr, ⊎-elim}
+use mathlib.Core.Logic.{inl, inr}
 use Prim.Native.Nat.{ℕ, _+_, _*_, _-_, _%_, _^_, _≤_, _<_}
 use native.Mathlib.Nat.{mod-lt, mul-one, mul-le-mul}
 use native.Mathlib.Numerals.{add-one}
@@ -12,13 +12,13 @@ use borrow.Author.Tests.{lt-ltb, le-ltb}
 use mir.Syntax.{w8, w32}
 use mir.Val.{SFits, toZ, ofZ}
 use mir.Facts.{toZ-ofZ, toZ-pos}
-use Rattle.whole.specs.Int.{int, sum-is, product-is, up-neg, down-neg, abs-is, abs-sum, abs-neg, abs-product, one-part}
+use Rattle.whole.specs.Int.{int, sum-is, product-is, up-neg, down-neg, abs-sum, abs-neg, abs-product}
 use Rattle.whole.specs.Residue.{residue, residue-is, residue-same, Same, same-eq, same-refl, same-sym, same-trans, same-add, same-mul}
 use Rattle.whole.specs.Sum.{sum, sum-first}
-use Rattle.whole.specs.Twos.{signed, signed-range, InBits}
+use Rattle.whole.specs.Twos.{signed, signed-size}
 use Rattle.ring.specs.Product.{Poly, turn, turn-low, turn-high, mul}
 use Rattle.ring.specs.Lists.{naturals, signedBytes}
-use Rattle.ring.specs.Sparse.{turns, sparse, mul-sparse, Sign, Signed}
+use Rattle.ring.specs.Sparse.{turns, sparse, mul-sparse, Sign, Signed, sign-size}
 use Rattle.ring.specs.Asks.{Near, Turned, SparseRow, SparseProduct, ByteRow, ByteProduct}
 
 -- ---- one turn, modulo q
@@ -149,13 +149,6 @@ pub byte-high : (b : ℕ) → 128 ≤ b → b < 2 ^ 8 → toZ w32 b -ℤ pos 256
 unfolding signed
 byte-high b h l = ap (λ (z : ℤ). z -ℤ pos 256) (toZ-pos w32 {n = b} (omega arith)) ∙ sym (rw (le-ltb b 128 h))
 
-signed-size : (b : ℕ) → b < 2 ^ 8 → natAbs (signed 8 b) ≤ 128
-signed-size b l =
-    ⊎-elim (λ e. omega (arith, abs-is (signed 8 b), r .above, r .below)) (λ e. omega (arith, abs-is (signed 8 b), r .above, r .below)) (one-part (signed 8 b))
-  where
-    r : InBits 8 (signed 8 b)
-    r = signed-range 8 b (omega arith) l
-
 pub signed-small : (b : ℕ) {r : ℤ} → b < 2 ^ 8 → r ≡ signed 8 b → natAbs r ≤ 128
 signed-small b l e = omega (arith, ap natAbs e, signed-size b l)
 
@@ -180,10 +173,6 @@ by-plus v s f e = toZ-ofZ f ∙ rw e (omega (int, product-is (pos 1) v))
 
 pub by-minus : (v s : ℤ) → SFits w32 v → natAbs v ≤ 128 → s ≡ negsuc 0 → toZ w32 (ofZ w32 (pos 0 -ℤ toZ w32 (ofZ w32 v))) ≡ s *ℤ v
 by-minus v s f h e = minus-read v f h ∙ rw e (omega (int, product-is (negsuc 0) v, up-neg v, down-neg v))
-
-sign-size : {s : ℤ} → Sign s → natAbs s ≡ 1
-sign-size {s} (inl e) = rw e
-sign-size {s} (inr e) = rw e
 
 -- ---- exactly
 

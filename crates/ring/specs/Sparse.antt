@@ -2,13 +2,13 @@
 -- Assumes nothing.
 use mathlib.Core.Path.{_≡_, refl, ap, ap₂, _∙_}
 use mathlib.Core.Bool.{cond}
-use mathlib.Core.Logic.{_⊎_, ⊎-elim}
+use mathlib.Core.Logic.{_⊎_, inl, inr, ⊎-elim}
 use mathlib.Core.List.{List, [], _∷_}
 use Prim.Native.Nat.{ℕ, zero, suc, _≤_, _<_}
 use native.Mathlib.Omega.{arith}
 use lib.Dec.{eqb}
 use lib.ListN.{length, getD}
-use lib.IntN.{ℤ, pos, negsuc, _+ℤ_, _*ℤ_, +ℤ-idl, +ℤ-idr, zero-*ℤ}
+use lib.IntN.{ℤ, pos, negsuc, natAbs, _+ℤ_, _*ℤ_, +ℤ-idl, +ℤ-idr, zero-*ℤ}
 use borrow.Author.Tests.{eq-eqb, ne-eqb}
 use Rattle.whole.specs.Int.{lt-or-le}
 use Rattle.whole.specs.Sum.{sum, sum-ext, sum-zero}
@@ -34,6 +34,10 @@ turns n f (p ∷ ps) (s ∷ ss) k = s *ℤ turn n p f k +ℤ turns n f ps ss k
 -- a sign: +1 or −1
 abbrev pub Sign : ℤ → Type 0
 Sign s = (s ≡ pos 1) ⊎ (s ≡ negsuc 0)
+
+pub sign-size : {s : ℤ} → Sign s → natAbs s ≡ 1
+sign-size {s} (inl e) = rw e
+sign-size {s} (inr e) = rw e
 
 -- Positions below n, a sign +1 or −1 for each
 pub record Signed (n : ℕ) (ps : List ℕ) (ss : List ℤ) : Type 0 where

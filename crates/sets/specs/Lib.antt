@@ -1,4 +1,5 @@
 pub mod Good
+pub mod GoodLaws
 pub mod Limits
 pub mod Marks
 pub mod SetI

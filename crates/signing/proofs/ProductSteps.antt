@@ -18,6 +18,7 @@ use Rattle.ring.specs.Lists.{naturals, integers, residues, length-residues, res
 use Rattle.ring.specs.Asks.{Factors, Small}
 use Rattle.sets.specs.declared.Numbers.{Numbers}
 use Rattle.sets.specs.Good.{Good}
+use Rattle.sets.specs.GoodLaws.{q-some}
 use Rattle.sampling.specs.declared.drawn.DrawA.{DrawA}
 use Rattle.sampling.specs.DrawA.{valuesLeft, ValidA, StartedA, NextA, AfterA}
 use Rattle.sampling.specs.Streams.{allA, aOf, yOf}
@@ -27,7 +28,7 @@ use Rattle.records.specs.PublicLaws.{row-fits}
 use Rattle.signing.specs.Attempt.{highsOf, vOf}
 use Rattle.signing.specs.Parts.{productOf}
 use Rattle.signing.specs.Asks.{Multiplies, Absorbs, Commits}
-use Rattle.signing.proofs.Rows.{q-some, next-row, lent-is, back-length}
+use Rattle.signing.proofs.Rows.{next-row, lent-is, back-length}
 
 product-length : (set : Numbers) (seedA yr : List ℕ) (i : ℕ) → length (productOf set seedA yr i) ≡ set .n
 unfolding productOf

@@ -1,7 +1,7 @@
 -- Polynomials in a row, as the code reads and writes them one after another, and a part of a slice that is lent and comes back.
 -- Assumes nothing.
 use mathlib.Core.Path.{_≡_, refl, sym, ap, _∙_}
-use mathlib.Core.Bool.{Bool, true, false, true≢false}
+use mathlib.Core.Bool.{Bool}
 use mathlib.Core.List.{List, _++_}
 use Prim.Native.Nat.{ℕ, zero, suc, _+_, _*_, _-_, _≤_, _<_}
 use native.Mathlib.Nat.{mul-le-mul, mul-suc}
@@ -11,7 +11,6 @@ use lib.Pow.{pow-pos, pow-mono}
 use lib.ListN.{length, take, drop, length-append, length-drop, length-take}
 use lib.Seq.{drop-append-add, drop-drop, drop-at, length-take-le}
 use Rattle.whole.specs.Refusal.{eachBelow}
-use Rattle.whole.specs.RefusalLaws.{both, eachBelow-at}
 use Rattle.sets.specs.declared.Numbers.{Numbers}
 use Rattle.sets.specs.Good.{Good}
 use Rattle.records.specs.Layout.{polynomial}
@@ -28,9 +27,6 @@ module _ {set : Numbers} (good : Good set) where
 
   pub row-few : set .k * set .n ≤ 16711680
   row-few = mul-le-mul (good .k-few) n-few
-
-  pub q-some : 0 < set .q
-  q-some = omega (arith, good .q-large)
 
   -- polynomial i ends within the row, whose length fits a word
   pub row-inside : {i : ℕ} → i < set .k → set .n * i + set .n ≤ 16711680
@@ -68,21 +64,6 @@ module _ {A : Type 0} where
   same-rest n i xs ys e = sym (drop-drop n (n * i) xs) ∙ ap (drop n) e ∙ drop-drop n (n * i) ys
 
 -- ---- tests of polynomial 0, 1, .., k − 1
-
-pub each-none : (p : ℕ → Bool) → eachBelow 0 p ≡ true
-unfolding eachBelow
-each-none p = refl
-
-pub each-more : (i : ℕ) (p : ℕ → Bool) → eachBelow i p ≡ true → p i ≡ true → eachBelow (i + 1) p ≡ true
-unfolding eachBelow
-each-more i p e f = rw add-one (both e f)
-
-pub each-fails : (k i : ℕ) (p : ℕ → Bool) → i < k → p i ≡ false → eachBelow k p ≡ false
-each-fails k i p l e = go (eachBelow k p) refl
-  where
-    go : (b : Bool) → eachBelow k p ≡ b → eachBelow k p ≡ false
-    go true f = absurd (true≢false (sym (eachBelow-at k i p f l) ∙ e))
-    go false f = f
 
 pub each-ext : (k : ℕ) (p r : ℕ → Bool) → ((i : ℕ) → i < k → p i ≡ r i) → eachBelow k p ≡ eachBelow k r
 unfolding eachBelow

@@ -1,7 +1,7 @@
 -- The tests on w_1..w_k, one after another, and z. Assumes nothing.
 use mathlib.Core.Path.{_≡_, refl, sym, ap, _∙_}
 use mathlib.Core.Bool.{Bool, true, false}
-use mathlib.Core.Logic.{inl, inr, ⊎-elim}
+use mathlib.Core.Logic.{⊎-elim}
 use mathlib.Core.List.{List, [], _∷_, _++_}
 use Prim.Native.Nat.{ℕ, suc, _+_, _*_, _-_, _^_, _≤_, _<_, zero-le, suc-le-suc}
 use native.Mathlib.Nat.{le-antisymm}
@@ -9,40 +9,30 @@ use native.Mathlib.Numerals.{add-one}
 use native.Mathlib.Omega.{arith}
 use lib.IntN.{ℤ, pos, natAbs, _+ℤ_, _-ℤ_, _*ℤ_, +ℤ-comm}
 use lib.ListN.{length, getD, take, drop}
-use Rattle.whole.specs.Int.{lt-or-le, abs-is, abs-neg, abs-sum, abs-product, one-part}
+use Rattle.whole.specs.Int.{lt-or-le, abs-neg, abs-sum, abs-product}
 use Rattle.whole.specs.Residue.{residue}
 use Rattle.whole.specs.Table.{table, length-table, getD-table, table-ext}
 use Rattle.whole.specs.Below.{Below, within-more, within-table}
-use Rattle.whole.specs.Twos.{signed, signed-range, InBits}
+use Rattle.whole.specs.Twos.{signed, signed-size}
 use Rattle.whole.specs.Refusal.{every, eachBelow}
-use Rattle.whole.specs.RefusalLaws.{not-first}
+use Rattle.whole.specs.RefusalLaws.{not-first, eachBelow-none, eachBelow-more, eachBelow-fails}
 use Rattle.rounding.specs.Tests.{lowPasses, sizePasses}
 use Rattle.rounding.specs.Asks.{LowTests, SizeTests}
 use Rattle.ring.specs.Product.{Poly, turn, turn-low, turn-high, mul}
 use Rattle.ring.specs.Lists.{naturals, integers, signedBytes, residues, residues-below}
-use Rattle.ring.specs.Sparse.{sparse, turns, mul-sparse, Sign}
+use Rattle.ring.specs.Sparse.{sparse, turns, mul-sparse, Sign, sign-size}
 use Rattle.ring.specs.Asks.{ByteProduct, WithSmall, Summands}
 use Rattle.sets.specs.declared.Numbers.{Numbers}
 use Rattle.sets.specs.Good.{Good}
+use Rattle.sets.specs.GoodLaws.{q-some}
 use Rattle.records.specs.Layout.{polynomial}
 use Rattle.records.specs.PublicLaws.{row-fits, polynomial-length, polynomial-below}
 use Rattle.signing.specs.Attempt.{wPasses}
 use Rattle.signing.specs.Parts.{zWith, wOne, wWith}
 use Rattle.signing.specs.Asks.{Terms, MakesZ, TestsOneW, TestsW}
-use Rattle.signing.proofs.Rows.{q-some, next-row, lent-is, back-length, back-rest, same-rest, each-none, each-more, each-fails}
+use Rattle.signing.proofs.Rows.{next-row, lent-is, back-length, back-rest, same-rest}
 
 -- ---- a signed byte's product by c: at most 128 for each of c's h terms
-
-byte-size : (b : ℕ) → b < 2 ^ 8 → natAbs (signed 8 b) ≤ 128
-byte-size b l =
-    ⊎-elim (λ e. omega (arith, abs-is (signed 8 b), r .above, r .below)) (λ e. omega (arith, abs-is (signed 8 b), r .above, r .below)) (one-part (signed 8 b))
-  where
-    r : InBits 8 (signed 8 b)
-    r = signed-range 8 b (omega arith) l
-
-sign-size : {s : ℤ} → Sign s → natAbs s ≡ 1
-sign-size {s} (inl e) = rw e
-sign-size {s} (inr e) = rw e
 
 turn-size : (n p : ℕ) (f : Poly) (k : ℕ) → ((i : ℕ) → natAbs (f i) ≤ 128) → natAbs (turn n p f k) ≤ 128
 turn-size n p f k h =
@@ -70,7 +60,7 @@ module _ {set : Numbers} {ps : List ℕ} {ss : List ℤ} (t : Terms set ps ss) (
   pub product-size : (k : ℕ) → k < set .n → natAbs (mul (set .n) (signedBytes e) (sparse ps ss) k) ≤ 128 * set .h
   product-size k l =
       rw (mul-sparse (set .n) (signedBytes e) ps ss k l (t .signed .inside), ← t .few)
-      (turns-size (set .n) (signedBytes e) ps ss k (λ i. byte-size (getD e i 0) (bytes i)) (t .signed .signs))
+      (turns-size (set .n) (signedBytes e) ps ss k (λ i. signed-size (getD e i 0) (bytes i)) (t .signed .signs))
 
   -- what the product asks, and what it is
   pub byte-product : {out : List ℤ} → Good set → length e ≡ set .n → length out ≡ set .n → ByteProduct e ps ss out
@@ -201,7 +191,7 @@ module _ {set : Numbers} {e old ps : List ℕ} {ss before : List ℤ} (t : Tests
         long = refl;
         rest = refl;
         room = t .ec-long;
-        passed = each-none (λ j. wPasses set (wWith set e old (sparse ps ss) j));
+        passed = eachBelow-none (λ j. wPasses set (wWith set e old (sparse ps ss) j));
       }
 
   module _ {v : List ℕ} {ec : List ℤ} {i : ℕ} (h : Testing set e old ps ss v ec i) where
@@ -241,7 +231,7 @@ module _ {set : Numbers} {e old ps : List ℕ} {ss before : List ℤ} (t : Tests
           long = back-length (set .n * i) (set .n) v new (testing-fits l) new-long ∙ h .long;
           rest = rw (next-row (set .n) i) (back-rest (set .n * i) (set .n) v new (testing-fits l) new-long ∙ same-rest (set .n) i v old (h .rest));
           room = room ∙ h .room;
-          passed = each-more i (λ j. wPasses set (wWith set e old (sparse ps ss) j)) (h .passed) (sym (same-test f) ∙ g);
+          passed = eachBelow-more (λ j. wPasses set (wWith set e old (sparse ps ss) j)) (h .passed) (sym (same-test f) ∙ g) refl;
         })
       where
         size : set .n * i + set .n - set .n * i ≡ set .n
@@ -265,7 +255,7 @@ module _ {set : Numbers} {e old ps : List ℕ} {ss before : List ℤ} (t : Tests
         → r ≡ wPasses set (wOne set (take (set .n * i + set .n - set .n * i) (drop (set .n * i) e)) (take (set .n * i + set .n - set .n * i) (drop (set .n * i) v)) (sparse ps ss))
         → r ≡ false → false ≡ eachBelow (set .k) (λ j. wPasses set (wWith set e old (sparse ps ss) j))
     testing-fails l f g =
-        sym (each-fails (set .k) i (λ j. wPasses set (wWith set e old (sparse ps ss) j)) l (sym (same-test f) ∙ g))
+        sym (eachBelow-fails (set .k) i (λ j. wPasses set (wWith set e old (sparse ps ss) j)) l (sym (same-test f) ∙ g))
 
     pub testing-all : set .k ≤ i → true ≡ eachBelow (set .k) (λ j. wPasses set (wWith set e old (sparse ps ss) j))
     testing-all l = sym (ap (λ (j : ℕ). eachBelow j (λ j. wPasses set (wWith set e old (sparse ps ss) j))) whole ∙ h .passed)

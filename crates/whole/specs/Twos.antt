@@ -7,9 +7,9 @@ use mathlib.Core.Logic.{_⊎_, inl, inr, ⊎-elim}
 use native.Mathlib.Nat.{pow-succ', mod-eq-of-lt, mul-one}
 use native.Mathlib.Omega.{arith}
 use lib.Dec.{ltb}
-use lib.IntN.{ℤ, pos, negsuc, negℤ, _+ℤ_, _-ℤ_}
+use lib.IntN.{ℤ, pos, negsuc, negℤ, natAbs, _+ℤ_, _-ℤ_}
 use borrow.Author.Tests.{lt-ltb, le-ltb}
-use Rattle.whole.specs.Int.{up, down, int, minus-is, one-part, lt-or-le}
+use Rattle.whole.specs.Int.{up, down, int, minus-is, abs-is, one-part, lt-or-le}
 use Rattle.whole.specs.Residue.{residue, residue-is, residue-small, Same}
 
 -- b bits with the value x: x itself below 2^(b − 1), and x − 2^b from there on
@@ -79,3 +79,11 @@ signed-range b x h l =
           below = omega (arith, minus-is (pos x) (pos (2 ^ b)), halves b h);
         }
     negative le (inr e) = absurd (omega (arith, minus-is (pos x) (pos (2 ^ b)), halves b h))
+
+-- a signed byte is at most 128 in size
+pub signed-size : (b : ℕ) → b < 2 ^ 8 → natAbs (signed 8 b) ≤ 128
+signed-size b l =
+    ⊎-elim (λ e. omega (arith, abs-is (signed 8 b), r .above, r .below)) (λ e. omega (arith, abs-is (signed 8 b), r .above, r .below)) (one-part (signed 8 b))
+  where
+    r : InBits 8 (signed 8 b)
+    r = signed-range 8 b (omega arith) l
