@@ -37,7 +37,8 @@ slice-aggregate-check-in-9 c = search needs
 
 check-in-requires : tie.Need-check-in-requires
 check-in-requires c κs =
-    scratch-i (c .before .before .before .before .before .before .before .before .before .numbers .ensures) refl refl refl refl refl refl refl refl refl
+    let at-numbers = c .before .before .before .before .before .before .before .before .before in
+    scratch-i (at-numbers .numbers .ensures) refl refl refl refl refl refl refl refl refl
 
 returns : tie.Need-returns
 returns c =

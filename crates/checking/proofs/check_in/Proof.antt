@@ -55,10 +55,11 @@ same-length-10 c = search needs
 
 returns-2 : tie.Need-returns-2
 returns-2 c =
+    let at-check-tested = c .before .before .before .before .before .before .before .before .before .before .before .before .before .before .before .before in
     let told = c .before .before .before .before .before .before .before .before .before .before .before .before .before .before .before .before .before .before .before .before .before .before .before .before .before .before in
     let tested = told .before .before .before .before in
     let start = tested .before .before .before .before .before .before .before .before .before .before .before .before in
-    c .before .before .before .before .before .before .before .before .before .before .before .before .before .before .before .before .check-tested .ensures
+    at-check-tested .check-tested .ensures
     ∙ sym (check-goes-on (start .args .set) (start .args .public .now) (start .args .message .now) (start .args .signature .now) (accepted (told .enum-told .given .1) (tested .test-inputs .ensures)))
 
 pub check-in-spec : {M : Type 1} → statement M

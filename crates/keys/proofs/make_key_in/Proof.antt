@@ -9,7 +9,8 @@ use Rattle.keys.proofs.make_key_in.Tie as tie
 
 test-inputs-requires : tie.Need-test-inputs-requires
 test-inputs-requires c κs =
-    let asked = c .before .before .before .before .before .before .before .before .before .before .before .pre in
+    let start = c .before .before .before .before .before .before .before .before .before .before .before in
+    let asked = start .pre in
     record { good = asked .writes .good; slots-long = asked .slots-long }
 
 enum-told : tie.Need-enum-told
@@ -33,22 +34,34 @@ put-both-requires c κs =
     both-asks (a .set) (a .s .now) (a .e .now) (a .seed-a .now) (a .seed-y .now) (a .public .now) (a .secret .now) (start .pre) (done-number (told .enum-told .given .1) (tested .test-inputs .ensures))
 
 same-length-2 : tie.Need-same-length-2
-same-length-2 c = c .before .before .before .before .before .before .before .before .before .before .put-both .kept .1 .1 .1 .1 .1 .0
+same-length-2 c =
+    let at-put-both = c .before .before .before .before .before .before .before .before .before .before in
+    at-put-both .put-both .kept .1 .1 .1 .1 .1 .0
 
 same-length-3 : tie.Need-same-length-3
-same-length-3 c = c .before .before .before .before .before .before .before .before .before .before .put-both .kept .1 .1 .1 .1 .1 .1 .0
+same-length-3 c =
+    let at-put-both = c .before .before .before .before .before .before .before .before .before .before in
+    at-put-both .put-both .kept .1 .1 .1 .1 .1 .1 .0
 
 same-length-4 : tie.Need-same-length-4
-same-length-4 c = c .before .before .before .before .before .before .before .before .before .before .put-both .kept .1 .1 .1 .1 .1 .1 .1 .0
+same-length-4 c =
+    let at-put-both = c .before .before .before .before .before .before .before .before .before .before in
+    at-put-both .put-both .kept .1 .1 .1 .1 .1 .1 .1 .0
 
 same-length-5 : tie.Need-same-length-5
-same-length-5 c = c .before .before .before .before .before .before .before .before .before .before .put-both .kept .1 .1 .1 .1 .1 .1 .1 .1 .0
+same-length-5 c =
+    let at-put-both = c .before .before .before .before .before .before .before .before .before .before in
+    at-put-both .put-both .kept .1 .1 .1 .1 .1 .1 .1 .1 .0
 
 same-length-6 : tie.Need-same-length-6
-same-length-6 c = c .before .before .before .before .before .before .before .before .before .before .put-both .kept .1 .1 .1 .1 .1 .1 .1 .1 .1 .0
+same-length-6 c =
+    let at-put-both = c .before .before .before .before .before .before .before .before .before .before in
+    at-put-both .put-both .kept .1 .1 .1 .1 .1 .1 .1 .1 .1 .0
 
 same-length-7 : tie.Need-same-length-7
-same-length-7 c = c .before .before .before .before .before .before .before .before .before .before .before .before .before .before .before .before .before .before .before .before .test-inputs .kept .1 .1 .1 .1 .1 .1 .1 .0
+same-length-7 c =
+    let at-test-inputs = c .before .before .before .before .before .before .before .before .before .before .before .before .before .before .before .before .before .before .before .before in
+    at-test-inputs .test-inputs .kept .1 .1 .1 .1 .1 .1 .1 .0
 
 returns-2 : tie.Need-returns-2
 returns-2 c =

@@ -4,7 +4,9 @@ use Rattle.keys.proofs.put_both.Statement.{statement}
 use Rattle.keys.proofs.put_both.Tie as tie
 
 put-public-requires : tie.Need-put-public-requires
-put-public-requires c κs = c .before .before .before .before .before .before .before .before .before .before .before .before .before .pre .for-public
+put-public-requires c κs =
+    let start = c .before .before .before .before .before .before .before .before .before .before .before .before .before in
+    start .pre .for-public
 
 put-secret-requires : tie.Need-put-secret-requires
 put-secret-requires c κs =
@@ -12,19 +14,27 @@ put-secret-requires c κs =
     secret-asks _ (first .before .before .before .before .before .before .before .before .before .before .before .before .before .before .pre) (first .put-public .kept .1 .1 .1 .1 .1 .1 .1 .0)
 
 same-length : tie.Need-same-length
-same-length c = c .before .before .before .before .before .before .before .before .before .before .before .before .before .put-public .kept .1 .1 .1 .1 .1 .1 .1 .0
+same-length c =
+    let at-put-public = c .before .before .before .before .before .before .before .before .before .before .before .before .before in
+    at-put-public .put-public .kept .1 .1 .1 .1 .1 .1 .1 .0
 
 same-length-2 : tie.Need-same-length-2
 same-length-2 c = c .before .before .put-secret .kept .1 .1 .1 .1 .1 .1 .0
 
 same-length-3 : tie.Need-same-length-3
-same-length-3 c = c .before .before .before .before .before .before .before .before .before .before .before .before .before .put-public .kept .1 .1 .1 .1 .0
+same-length-3 c =
+    let at-put-public = c .before .before .before .before .before .before .before .before .before .before .before .before .before in
+    at-put-public .put-public .kept .1 .1 .1 .1 .0
 
 same-length-4 : tie.Need-same-length-4
-same-length-4 c = c .before .before .before .before .before .before .before .before .before .before .before .before .before .put-public .kept .1 .1 .1 .1 .1 .0
+same-length-4 c =
+    let at-put-public = c .before .before .before .before .before .before .before .before .before .before .before .before .before in
+    at-put-public .put-public .kept .1 .1 .1 .1 .1 .0
 
 same-length-5 : tie.Need-same-length-5
-same-length-5 c = c .before .before .before .before .before .before .before .before .before .before .before .before .before .put-public .kept .1 .1 .1 .1 .1 .1 .0
+same-length-5 c =
+    let at-put-public = c .before .before .before .before .before .before .before .before .before .before .before .before .before in
+    at-put-public .put-public .kept .1 .1 .1 .1 .1 .1 .0
 
 returns : tie.Need-returns
 returns c =

@@ -9,13 +9,19 @@ seed-a-start-requires : tie.Need-seed-a-start-requires
 seed-a-start-requires c κs = c .before .before .before .before .before .pre .good
 
 add-at : tie.Need-add-at
-add-at c = omega (arith, hash-few (c .before .before .before .before .before .before .pre) (c .seed-a-start .ensures))
+add-at c =
+    let start = c .before .before .before .before .before .before in
+    omega (arith, hash-few (start .pre) (c .seed-a-start .ensures))
 
 add-end : tie.Need-add-end
-add-end c = omega (arith, hash-few (c .before .before .before .before .before .before .pre) (c .seed-a-start .ensures))
+add-end c =
+    let start = c .before .before .before .before .before .before in
+    omega (arith, hash-few (start .pre) (c .seed-a-start .ensures))
 
 message-digest-requires : tie.Need-message-digest-requires
-message-digest-requires c κs = record { good = c .before .before .before .before .before .before .before .pre .good; long = c .before .before .before .before .before .before .before .pre .digest-long }
+message-digest-requires c κs =
+    let start = c .before .before .before .before .before .before .before in
+    record { good = start .pre .good; long = start .pre .digest-long }
 
 sub-rand-of : tie.Need-sub-rand-of
 sub-rand-of c = omega arith
@@ -24,10 +30,14 @@ part-rand-of-start : tie.Need-part-rand-of-start
 part-rand-of-start c = omega arith
 
 part-rand-of-end : tie.Need-part-rand-of-end
-part-rand-of-end c = omega (arith, hash-fits (c .before .before .before .before .before .before .before .before .before .before .pre) (c .before .before .before .before .seed-a-start .ensures))
+part-rand-of-end c =
+    let start = c .before .before .before .before .before .before .before .before .before .before in
+    omega (arith, hash-fits (start .pre) (c .before .before .before .before .seed-a-start .ensures))
 
 rand-of-requires : tie.Need-rand-of-requires
-rand-of-requires c κs = record { good = c .before .before .before .before .before .before .before .before .before .before .before .before .before .pre .good; long = c .before .before .before .before .before .before .before .before .before .before .before .before .before .pre .rand-long }
+rand-of-requires c κs =
+    let start = c .before .before .before .before .before .before .before .before .before .before .before .before .before in
+    record { good = start .pre .good; long = start .pre .rand-long }
 
 same-length : tie.Need-same-length
 same-length c = search needs
@@ -37,9 +47,11 @@ same-length-2 c = search needs
 
 returns : tie.Need-returns
 returns c =
+    let at-message-digest = c .before .before .before .before .before .before .before .before in
+    let at-seed-a-start = at-message-digest .before .before in
     let start = c .before .before .before .before .before .before .before .before .before .before .before .before .before .before .before .before in
-    let made = c .before .before .before .before .before .before .before .before .message-digest .ensures in
-    (made, hash-rand (start .pre) (c .before .before .before .before .before .before .before .before .before .before .seed-a-start .ensures) (start .args .r .now) (start .args .message .now) made (c .before .before .rand-of .ensures))
+    let made = at-message-digest .message-digest .ensures in
+    (made, hash-rand (start .pre) (at-seed-a-start .seed-a-start .ensures) (start .args .r .now) (start .args .message .now) made (c .before .before .rand-of .ensures))
 
 pub hash-message-spec : {M : Type 1} → statement M
 hash-message-spec =

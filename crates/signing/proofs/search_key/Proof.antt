@@ -9,19 +9,29 @@ use Rattle.signing.proofs.search_key.Statement.{statement}
 use Rattle.signing.proofs.search_key.Tie as tie
 
 e-start-requires : tie.Need-e-start-requires
-e-start-requires c κs = c .before .before .before .before .before .before .before .before .before .pre .0 .fitting .good
+e-start-requires c κs =
+    let start = c .before .before .before .before .before .before .before .before .before in
+    start .pre .0 .fitting .good
 
 seed-a-start-requires : tie.Need-seed-a-start-requires
-seed-a-start-requires c κs = c .before .before .before .before .before .before .before .before .before .before .pre .0 .fitting .good
+seed-a-start-requires c κs =
+    let start = c .before .before .before .before .before .before .before .before .before .before in
+    start .pre .0 .fitting .good
 
 add-seed-end : tie.Need-add-seed-end
-add-seed-end c = omega (arith, key-few (c .before .before .before .before .before .before .before .before .before .before .before .pre .0) (c .before .e-start .ensures) (c .seed-a-start .ensures))
+add-seed-end c =
+    let start = c .before .before .before .before .before .before .before .before .before .before .before in
+    omega (arith, key-few (start .pre .0) (c .before .e-start .ensures) (c .seed-a-start .ensures))
 
 add-g-at : tie.Need-add-g-at
-add-g-at c = omega (arith, key-few (c .before .before .before .before .before .before .before .before .before .before .before .pre .0) (c .before .e-start .ensures) (c .seed-a-start .ensures))
+add-g-at c =
+    let start = c .before .before .before .before .before .before .before .before .before .before .before in
+    omega (arith, key-few (start .pre .0) (c .before .e-start .ensures) (c .seed-a-start .ensures))
 
 add-g-end : tie.Need-add-g-end
-add-g-end c = omega (arith, key-few (c .before .before .before .before .before .before .before .before .before .before .before .pre .0) (c .before .e-start .ensures) (c .seed-a-start .ensures))
+add-g-end c =
+    let start = c .before .before .before .before .before .before .before .before .before .before .before in
+    omega (arith, key-few (start .pre .0) (c .before .e-start .ensures) (c .seed-a-start .ensures))
 
 sub-search : tie.Need-sub-search
 sub-search c = omega (arith, (c .before .e-start .ensures))
@@ -30,7 +40,9 @@ part-search-start : tie.Need-part-search-start
 part-search-start c = omega (arith, (c .before .e-start .ensures))
 
 part-search-end : tie.Need-part-search-end
-part-search-end c = omega (arith, s-end (c .before .before .before .before .before .before .before .before .before .before .before .args .set) (c .before .before .before .before .before .before .before .before .before .before .before .args .secret .now) (c .before .before .before .before .before .before .before .before .before .before .before .pre .0 .long) (c .before .e-start .ensures) (c .seed-a-start .ensures))
+part-search-end c =
+    let start = c .before .before .before .before .before .before .before .before .before .before .before in
+    omega (arith, s-end (start .args .set) (start .args .secret .now) (start .pre .0 .long) (c .before .e-start .ensures) (c .seed-a-start .ensures))
 
 sub-search-2 : tie.Need-sub-search-2
 sub-search-2 c = omega (arith, (c .before .before .e-start .ensures), (c .before .seed-a-start .ensures))
@@ -39,7 +51,9 @@ part-search-start-2 : tie.Need-part-search-start-2
 part-search-start-2 c = omega (arith, (c .before .before .e-start .ensures), (c .before .seed-a-start .ensures))
 
 part-search-end-2 : tie.Need-part-search-end-2
-part-search-end-2 c = omega (arith, e-ends (c .before .before .before .before .before .before .before .before .before .before .before .before .args .set) (c .before .before .before .before .before .before .before .before .before .before .before .before .args .secret .now) (c .before .before .before .before .before .before .before .before .before .before .before .before .pre .0 .long) (c .before .before .e-start .ensures) (c .before .seed-a-start .ensures))
+part-search-end-2 c =
+    let start = c .before .before .before .before .before .before .before .before .before .before .before .before in
+    omega (arith, e-ends (start .args .set) (start .args .secret .now) (start .pre .0 .long) (c .before .before .e-start .ensures) (c .before .seed-a-start .ensures))
 
 sub-search-3 : tie.Need-sub-search-3
 sub-search-3 c = omega arith
@@ -48,7 +62,9 @@ part-search-start-3 : tie.Need-part-search-start-3
 part-search-start-3 c = omega arith
 
 part-search-end-3 : tie.Need-part-search-end-3
-part-search-end-3 c = omega (arith, key-fits (c .before .before .before .before .before .before .before .before .before .before .before .before .before .pre .0) (c .before .before .before .e-start .ensures) (c .before .before .seed-a-start .ensures))
+part-search-end-3 c =
+    let start = c .before .before .before .before .before .before .before .before .before .before .before .before .before in
+    omega (arith, key-fits (start .pre .0) (c .before .before .before .e-start .ensures) (c .before .before .seed-a-start .ensures))
 
 sub-search-4 : tie.Need-sub-search-4
 sub-search-4 c = omega arith
@@ -57,43 +73,70 @@ part-search-start-4 : tie.Need-part-search-start-4
 part-search-start-4 c = omega arith
 
 part-search-end-4 : tie.Need-part-search-end-4
-part-search-end-4 c = omega (arith, key-fits (c .before .before .before .before .before .before .before .before .before .before .before .before .before .before .pre .0) (c .before .before .before .before .e-start .ensures) (c .before .before .before .seed-a-start .ensures))
+part-search-end-4 c =
+    let start = c .before .before .before .before .before .before .before .before .before .before .before .before .before .before in
+    omega (arith, key-fits (start .pre .0) (c .before .before .before .before .e-start .ensures) (c .before .before .before .seed-a-start .ensures))
 
 search-requires : tie.Need-search-requires
 search-requires c κs =
-    (key-secrets (c .before .before .before .before .before .before .before .before .before .before .before .before .before .before .before .before .before .before .before .before .before .before .before .before .pre .0) (c .before .before .before .before .before .before .before .before .before .before .before .before .before .before .e-start .ensures) (c .before .before .before .before .before .before .before .before .before .before .before .before .before .seed-a-start .ensures), (c .before .before .before .before .before .before .before .before .before .before .before .before .before .before .before .before .before .before .before .before .before .before .before .before .pre .1, c .before .before .before .before .before .before .before .before .before .before .before .before .before .before .before .before .before .before .before .before .before .before .before .before .pre .0 .few))
+    let at-seed-a-start = c .before .before .before .before .before .before .before .before .before .before .before .before .before in
+    let at-e-start = at-seed-a-start .before in
+    let start = at-e-start .before .before .before .before .before .before .before .before .before .before in
+    (key-secrets (start .pre .0) (at-e-start .e-start .ensures) (at-seed-a-start .seed-a-start .ensures), (start .pre .1, start .pre .0 .few))
 
 same-length : tie.Need-same-length
-same-length c = c .before .before .before .before .before .before .before .before .before .before .before .before .before .before .before .search .kept .1 .1 .1 .1 .1 .1 .1 .1 .0
+same-length c =
+    let at-search = c .before .before .before .before .before .before .before .before .before .before .before .before .before .before .before in
+    at-search .search .kept .1 .1 .1 .1 .1 .1 .1 .1 .0
 
 same-length-2 : tie.Need-same-length-2
-same-length-2 c = c .before .before .before .before .before .before .before .before .before .before .before .before .before .before .before .search .kept .1 .1 .1 .1 .1 .1 .1 .1 .1 .0
+same-length-2 c =
+    let at-search = c .before .before .before .before .before .before .before .before .before .before .before .before .before .before .before in
+    at-search .search .kept .1 .1 .1 .1 .1 .1 .1 .1 .1 .0
 
 same-length-3 : tie.Need-same-length-3
-same-length-3 c = c .before .before .before .before .before .before .before .before .before .before .before .before .before .before .before .search .kept .1 .1 .1 .1 .1 .1 .1 .1 .1 .1 .0
+same-length-3 c =
+    let at-search = c .before .before .before .before .before .before .before .before .before .before .before .before .before .before .before in
+    at-search .search .kept .1 .1 .1 .1 .1 .1 .1 .1 .1 .1 .0
 
 same-length-4 : tie.Need-same-length-4
-same-length-4 c = c .before .before .before .before .before .before .before .before .before .before .before .before .before .before .before .search .kept .1 .1 .1 .1 .1 .1 .1 .1 .1 .1 .1 .0
+same-length-4 c =
+    let at-search = c .before .before .before .before .before .before .before .before .before .before .before .before .before .before .before in
+    at-search .search .kept .1 .1 .1 .1 .1 .1 .1 .1 .1 .1 .1 .0
 
 same-length-5 : tie.Need-same-length-5
-same-length-5 c = c .before .before .before .before .before .before .before .before .before .before .before .before .before .before .before .search .kept .1 .1 .1 .1 .1 .1 .1 .1 .1 .1 .1 .1 .0
+same-length-5 c =
+    let at-search = c .before .before .before .before .before .before .before .before .before .before .before .before .before .before .before in
+    at-search .search .kept .1 .1 .1 .1 .1 .1 .1 .1 .1 .1 .1 .1 .0
 
 same-length-6 : tie.Need-same-length-6
-same-length-6 c = c .before .before .before .before .before .before .before .before .before .before .before .before .before .before .before .search .kept .1 .1 .1 .1 .1 .1 .1 .1 .1 .1 .1 .1 .1 .0
+same-length-6 c =
+    let at-search = c .before .before .before .before .before .before .before .before .before .before .before .before .before .before .before in
+    at-search .search .kept .1 .1 .1 .1 .1 .1 .1 .1 .1 .1 .1 .1 .1 .0
 
 same-length-7 : tie.Need-same-length-7
-same-length-7 c = c .before .before .before .before .before .before .before .before .before .before .before .before .before .before .before .search .kept .1 .1 .1 .1 .1 .1 .1 .1 .1 .1 .1 .1 .1 .1 .0
+same-length-7 c =
+    let at-search = c .before .before .before .before .before .before .before .before .before .before .before .before .before .before .before in
+    at-search .search .kept .1 .1 .1 .1 .1 .1 .1 .1 .1 .1 .1 .1 .1 .1 .0
 
 same-length-8 : tie.Need-same-length-8
-same-length-8 c = c .before .before .before .before .before .before .before .before .before .before .before .before .before .before .before .search .kept .1 .1 .1 .1 .1 .1 .1 .1 .1 .1 .1 .1 .1 .1 .1 .0
+same-length-8 c =
+    let at-search = c .before .before .before .before .before .before .before .before .before .before .before .before .before .before .before in
+    at-search .search .kept .1 .1 .1 .1 .1 .1 .1 .1 .1 .1 .1 .1 .1 .1 .1 .0
 
 same-length-9 : tie.Need-same-length-9
-same-length-9 c = c .before .before .before .before .before .before .before .before .before .before .before .before .before .before .before .search .kept .1 .1 .1 .1 .1 .1 .1 .1 .1 .1 .1 .1 .1 .1 .1 .1 .0
+same-length-9 c =
+    let at-search = c .before .before .before .before .before .before .before .before .before .before .before .before .before .before .before in
+    at-search .search .kept .1 .1 .1 .1 .1 .1 .1 .1 .1 .1 .1 .1 .1 .1 .1 .1 .0
 
 returns : tie.Need-returns
 returns c =
-    let arg = c .before .before .before .before .before .before .before .before .before .before .before .before .before .before .before .before .before .before .before .before .before .before .before .before .before .before .before .before .before .before .before .before .before .before .before .before .before .before .before .before .args in
-    c .before .before .before .before .before .before .before .before .before .before .before .before .before .before .before .search .ensures ∙ ap (λ (k : Key). search (attempt (arg .set) k (arg .digest .now) (arg .rand .now)) (arg .budget)) (key-is (c .before .before .before .before .before .before .before .before .before .before .before .before .before .before .before .before .before .before .before .before .before .before .before .before .before .before .before .before .before .before .before .before .before .before .before .before .before .before .before .before .pre .0) (c .before .before .before .before .before .before .before .before .before .before .before .before .before .before .before .before .before .before .before .before .before .before .before .before .before .before .before .before .before .before .e-start .ensures) (c .before .before .before .before .before .before .before .before .before .before .before .before .before .before .before .before .before .before .before .before .before .before .before .before .before .before .before .before .before .seed-a-start .ensures))
+    let at-search = c .before .before .before .before .before .before .before .before .before .before .before .before .before .before .before in
+    let at-seed-a-start = at-search .before .before .before .before .before .before .before .before .before .before .before .before .before .before in
+    let at-e-start = at-seed-a-start .before in
+    let start = at-e-start .before .before .before .before .before .before .before .before .before .before in
+    let arg = start .args in
+    at-search .search .ensures ∙ ap (λ (k : Key). search (attempt (arg .set) k (arg .digest .now) (arg .rand .now)) (arg .budget)) (key-is (start .pre .0) (at-e-start .e-start .ensures) (at-seed-a-start .seed-a-start .ensures))
 
 pub search-key-spec : {M : Type 1} → statement M
 search-key-spec =

@@ -46,7 +46,8 @@ slice-aggregate-sign-in-12 c = search needs
 
 sign-in-requires : tie.Need-sign-in-requires
 sign-in-requires c κs =
-    let set = c .before .before .before .before .before .before .before .before .before .before .before .before .before .numbers .ensures in
+    let at-numbers = c .before .before .before .before .before .before .before .before .before .before .before .before .before in
+    let set = at-numbers .numbers .ensures in
     (signs-i set refl refl refl, places-i set refl refl refl refl refl refl refl refl refl)
 
 same-length : tie.Need-same-length
@@ -54,8 +55,11 @@ same-length c = search needs
 
 returns : tie.Need-returns
 returns c =
-    let a = c .before .before .before .before .before .before .before .before .before .before .before .before .before .before .before .before .before .before .before .before .before .before .before .before .before .before .before .before .before .before .before .before .before .args in
-    signed-i (c .before .before .before .before .before .before .before .before .before .before .before .before .before .before .before .before .before .before .before .before .before .before .before .before .before .before .before .before .numbers .ensures) (a .secret .now) (a .message .now) (a .r .now) (a .budget) (a .signature .now) (c .before .before .before .before .before .before .before .before .before .before .before .before .before .before .sign-in .ensures)
+    let at-sign-in = c .before .before .before .before .before .before .before .before .before .before .before .before .before .before in
+    let at-numbers = at-sign-in .before .before .before .before .before .before .before .before .before .before .before .before .before .before in
+    let start = at-numbers .before .before .before .before .before in
+    let a = start .args in
+    signed-i (at-numbers .numbers .ensures) (a .secret .now) (a .message .now) (a .r .now) (a .budget) (a .signature .now) (at-sign-in .sign-in .ensures)
 
 pub sign-spec : {M : Type 1} → statement M
 sign-spec =

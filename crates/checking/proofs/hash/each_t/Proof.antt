@@ -15,18 +15,25 @@ abbrev μ-loop : tie.MeasureT-loop
 μ-loop set seed-a public zr positions signs t₀ a₀ w₀ tc₀ bytes₀ k highs₀ i₀ t a w tc bytes highs i = k - i
 
 no-highs-requires : tie.Need-no-highs-requires Inv-loop μ-loop
-no-highs-requires c κs = c .before .before .before .before .before .before .before .before .before .pre .good
+no-highs-requires c κs =
+    let start = c .before .before .before .before .before .before .before .before .before in
+    start .pre .good
 
 loop-holds : tie.Need-loop-holds Inv-loop μ-loop
-loop-holds c = turn-none (c .before .before .before .before .before .before .before .before .before .before .pre) (c .no-highs .ensures)
+loop-holds c =
+    let start = c .before .before .before .before .before .before .before .before .before .before in
+    turn-none (start .pre) (c .no-highs .ensures)
 
 unpack-t-requires : tie.Need-unpack-t-requires Inv-loop μ-loop
-unpack-t-requires c κs = turn-reads (c .before .before .before .before .before .before .before .before .before .before .before .before .before .pre) (c .before .before .loop .inv) (c .before .loop-test .taken)
+unpack-t-requires c κs =
+    let start = c .before .before .before .before .before .before .before .before .before .before .before .before .before in
+    turn-reads (start .pre) (c .before .before .loop .inv) (c .before .loop-test .taken)
 
 one-t-requires : tie.Need-one-t-requires Inv-loop μ-loop
 one-t-requires c κs =
+    let at-unpack-t = c .before .before .before .before .before .before .before in
     let turn = c .before .before .before .before .before .before .before .before .before in
-    turn-asks (turn .before .before .before .before .before .before .before .before .before .before .before .before .pre) (turn .before .loop .inv) (turn .loop-test .taken) (c .before .before .before .before .before .before .before .unpack-t .ensures)
+    turn-asks (turn .before .before .before .before .before .before .before .before .before .before .before .before .pre) (turn .before .loop .inv) (turn .loop-test .taken) (at-unpack-t .unpack-t .ensures)
 
 add-i : tie.Need-add-i Inv-loop μ-loop
 add-i c =
@@ -34,7 +41,9 @@ add-i c =
     omega (arith, turn .loop-test .taken, turn .before .before .before .before .before .before .before .before .before .before .before .before .pre .good .k-few)
 
 loop-less : tie.Need-loop-less Inv-loop μ-loop
-loop-less c = omega (arith, c .before .before .before .before .before .before .before .before .before .before .before .before .before .before .before .before .before .before .loop-test .taken)
+loop-less c =
+    let at-loop-test = c .before .before .before .before .before .before .before .before .before .before .before .before .before .before .before .before .before .before in
+    omega (arith, at-loop-test .loop-test .taken)
 
 loop-again : tie.Need-loop-again Inv-loop μ-loop
 loop-again c =
@@ -44,19 +53,29 @@ loop-again c =
     (made .one-t .kept .1 .1 .1 .1 .1 .1 .0) (made .one-t .kept .1 .1 .1 .1 .1 .1 .1 .0) (made .one-t .kept .1 .1 .1 .1 .1 .1 .1 .1 .0) (made .one-t .kept .1 .1 .1 .1 .1 .1 .1 .1 .1 .0)
 
 same-length : tie.Need-same-length Inv-loop μ-loop
-same-length c = c .before .loop .inv .t-long ∙ sym (c .before .before .before .before .before .before .before .before .before .before .before .before .pre .t-long)
+same-length c =
+    let start = c .before .before .before .before .before .before .before .before .before .before .before .before in
+    c .before .loop .inv .t-long ∙ sym (start .pre .t-long)
 
 same-length-2 : tie.Need-same-length-2 Inv-loop μ-loop
-same-length-2 c = c .before .loop .inv .places .a-long ∙ sym (c .before .before .before .before .before .before .before .before .before .before .before .before .pre .places .a-long)
+same-length-2 c =
+    let start = c .before .before .before .before .before .before .before .before .before .before .before .before in
+    c .before .loop .inv .places .a-long ∙ sym (start .pre .places .a-long)
 
 same-length-3 : tie.Need-same-length-3 Inv-loop μ-loop
-same-length-3 c = c .before .loop .inv .places .w-long ∙ sym (c .before .before .before .before .before .before .before .before .before .before .before .before .pre .places .w-long)
+same-length-3 c =
+    let start = c .before .before .before .before .before .before .before .before .before .before .before .before in
+    c .before .loop .inv .places .w-long ∙ sym (start .pre .places .w-long)
 
 same-length-4 : tie.Need-same-length-4 Inv-loop μ-loop
-same-length-4 c = c .before .loop .inv .places .tc-long ∙ sym (c .before .before .before .before .before .before .before .before .before .before .before .before .pre .places .tc-long)
+same-length-4 c =
+    let start = c .before .before .before .before .before .before .before .before .before .before .before .before in
+    c .before .loop .inv .places .tc-long ∙ sym (start .pre .places .tc-long)
 
 same-length-5 : tie.Need-same-length-5 Inv-loop μ-loop
-same-length-5 c = c .before .loop .inv .places .bytes-long ∙ sym (c .before .before .before .before .before .before .before .before .before .before .before .before .pre .places .bytes-long)
+same-length-5 c =
+    let start = c .before .before .before .before .before .before .before .before .before .before .before .before in
+    c .before .loop .inv .places .bytes-long ∙ sym (start .pre .places .bytes-long)
 
 returns : tie.Need-returns Inv-loop μ-loop
 returns c = turn-all (c .before .loop .inv) (c .loop-test .left)

@@ -9,10 +9,15 @@ next-a-requires : tie.Need-next-a-requires
 next-a-requires c κs = search needs
 
 one-w-requires : tie.Need-one-w-requires
-one-w-requires c κs = w-asks (c .before .before .before .before .before .before .before .before .before .before .before .before .before .before .before .before .pre) (c .before .before .before .before .before .next-a .ensures) (c .before .before .before .before .before .next-a .kept .1 .1 .0)
+one-w-requires c κs =
+    let start = c .before .before .before .before .before .before .before .before .before .before .before .before .before .before .before .before in
+    w-asks (start .pre) (c .before .before .before .before .before .next-a .ensures) (c .before .before .before .before .before .next-a .kept .1 .1 .0)
 
 high-bytes-requires : tie.Need-high-bytes-requires
-high-bytes-requires c κs = highs-asks (c .before .before .before .before .before .before .before .before .before .before .before .before .before .before .before .before .before .before .before .before .before .before .before .pre) _ (c .before .before .before .before .before .before .one-w .ensures)
+high-bytes-requires c κs =
+    let at-one-w = c .before .before .before .before .before .before in
+    let start = at-one-w .before .before .before .before .before .before .before .before .before .before .before .before .before .before .before .before .before in
+    highs-asks (start .pre) _ (at-one-w .one-w .ensures)
 
 absorb-requires : tie.Need-absorb-requires
 absorb-requires c κs = search needs

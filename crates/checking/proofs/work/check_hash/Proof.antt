@@ -13,7 +13,8 @@ slice-aggregate-message-digest c = search needs
 
 message-digest-requires : tie.Need-message-digest-requires
 message-digest-requires c κs =
-    record { good = c .before .before .before .before .before .before .before .before .before .before .before .before .before .before .before .before .before .before .before .before .before .before .before .before .before .before .before .before .before .before .before .before .pre .good; long = refl }
+    let start = c .before .before .before .before .before .before .before .before .before .before .before .before .before .before .before .before .before .before .before .before .before .before .before .before .before .before .before .before .before .before .before .before in
+    record { good = start .pre .good; long = refl }
 
 slice-aggregate-public-g : tie.Need-slice-aggregate-public-g
 slice-aggregate-public-g c = search needs
@@ -55,9 +56,11 @@ same-length-7 c = search needs
 
 returns : tie.Need-returns
 returns c =
+    let at-message-digest = c .before .before .before .before .before .before .before in
+    let at-highs-of = at-message-digest .before .before .before .before .before .before .before .before .before .before .before .before .before .before .before in
     let start = c .before .before .before .before .before .before .before .before .before .before .before .before .before .before .before .before .before .before .before .before .before .before .before .before .before .before .before .before .before .before .before .before .before .before .before .before .before .before .before .before in
     c .judged .ensures
-    ∙ tests-are (start .args .public .now) (start .args .message .now) (start .args .zr .now) (start .args .c .now) _ (start .pre .good) (c .before .before .before .before .before .before .before .before .before .before .before .before .before .before .before .before .before .before .before .before .before .before .highs-of .ensures) (c .before .before .before .before .before .before .before .message-digest .ensures) (c .before .before .before .before .public-g .ensures)
+    ∙ tests-are (start .args .public .now) (start .args .message .now) (start .args .zr .now) (start .args .c .now) _ (start .pre .good) (at-highs-of .highs-of .ensures) (at-message-digest .message-digest .ensures) (c .before .before .before .before .public-g .ensures)
 
 pub check-hash-spec : {M : Type 1} → statement M
 check-hash-spec =

@@ -25,7 +25,9 @@ part-check-hash-end c = search needs
 
 check-hash-requires : tie.Need-check-hash-requires
 check-hash-requires c κs =
-    hash-asks (c .before .before .before .before .before .before .before .before .before .before .before .before .before .before .before .before .before .before .before .before .before .before .before .before .before .before .pre) (c .before .before .before .before .before .before .before .before .before .before .before .before .before .z-residues .ensures)
+    let at-z-residues = c .before .before .before .before .before .before .before .before .before .before .before .before .before in
+    let start = at-z-residues .before .before .before .before .before .before .before .before .before .before .before .before .before in
+    hash-asks (start .pre) (at-z-residues .z-residues .ensures)
 
 same-length : tie.Need-same-length
 same-length c = search needs
@@ -56,9 +58,12 @@ same-length-9 c = search needs
 
 returns : tie.Need-returns
 returns c =
+    let at-check-hash = c .before .before .before .before .before .before .before .before .before .before .before .before .before in
+    let at-signature-bytes = at-check-hash .before .before .before .before .before .before .before .before .before .before in
+    let at-z-residues = at-signature-bytes .before .before .before .before in
     let start = c .before .before .before .before .before .before .before .before .before .before .before .before .before .before .before .before .before .before .before .before .before .before .before .before .before .before .before .before .before .before .before .before .before .before .before .before .before .before .before .before in
-    c .before .before .before .before .before .before .before .before .before .before .before .before .before .check-hash .ensures
-    ∙ work-is (start .pre) (start .args .message .now) (c .before .before .before .before .before .before .before .before .before .before .before .before .before .before .before .before .before .before .before .before .before .before .before .before .before .before .before .z-residues .ensures) (challenge-is (start .args .set) (start .args .signature .now) (c .before .before .before .before .before .before .before .before .before .before .before .before .before .before .before .before .before .before .before .before .before .before .before .signature-bytes .ensures) (start .pre .tested .signature-long))
+    at-check-hash .check-hash .ensures
+    ∙ work-is (start .pre) (start .args .message .now) (at-z-residues .z-residues .ensures) (challenge-is (start .args .set) (start .args .signature .now) (at-signature-bytes .signature-bytes .ensures) (start .pre .tested .signature-long))
 
 pub check-tested-spec : {M : Type 1} → statement M
 check-tested-spec =

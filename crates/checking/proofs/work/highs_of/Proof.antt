@@ -21,8 +21,9 @@ part-each-t-end c = search needs
 
 each-t-requires : tie.Need-each-t-requires
 each-t-requires c κs =
+    let at-draw-enc = c .before .before .before .before .before .before .before .before .before .before .before in
     let start = c .before .before .before .before .before .before .before .before .before .before .before .before .before .before .before .before .before .before .before .before .before .before .before .before in
-    each-asks (start .pre) (start .args .c .now) (c .before .before .before .before .before .before .before .before .before .before .before .draw-enc .ensures)
+    each-asks (start .pre) (start .args .c .now) (at-draw-enc .draw-enc .ensures)
 
 same-length : tie.Need-same-length
 same-length c = search needs
@@ -47,8 +48,11 @@ same-length-7 c = search needs
 
 returns : tie.Need-returns
 returns c =
+    let at-each-t = c .before .before .before .before .before .before .before .before .before .before in
+    let at-draw-enc = at-each-t .before .before .before .before .before .before .before .before .before .before .before .before in
+    let at-seed-start = at-draw-enc .before .before .before in
     let start = c .before .before .before .before .before .before .before .before .before .before .before .before .before .before .before .before .before .before .before .before .before .before .before .before .before .before .before .before .before .before .before .before .before .before .before in
-    highs-are (start .args .public .now) (start .args .c .now) (seed-is (start .args .set) (start .args .public .now) (c .before .before .before .before .before .before .before .before .before .before .before .before .before .before .before .before .before .before .before .before .before .before .before .before .before .seed-start .ensures) (start .pre .public-long)) (c .before .before .before .before .before .before .before .before .before .before .before .before .before .before .before .before .before .before .before .before .before .before .draw-enc .ensures) (c .before .before .before .before .before .before .before .before .before .before .each-t .ensures)
+    highs-are (start .args .public .now) (start .args .c .now) (seed-is (start .args .set) (start .args .public .now) (at-seed-start .seed-start .ensures) (start .pre .public-long)) (at-draw-enc .draw-enc .ensures) (at-each-t .each-t .ensures)
 
 pub highs-of-spec : {M : Type 1} → statement M
 highs-of-spec =

@@ -9,7 +9,8 @@ next-a-requires c κs = search needs
 
 sum-of-requires : tie.Need-sum-of-requires
 sum-of-requires c κs =
-    t-asks (c .before .before .before .before .before .before .before .before .before .before .pre) (c .before .before .before .before .next-a .ensures) (c .before .before .before .before .next-a .kept .1 .1 .0)
+    let start = c .before .before .before .before .before .before .before .before .before .before in
+    t-asks (start .pre) (c .before .before .before .before .next-a .ensures) (c .before .before .before .before .next-a .kept .1 .1 .0)
 
 same-length : tie.Need-same-length
 same-length c = search needs
@@ -19,7 +20,9 @@ same-length-2 c = search needs
 
 returns : tie.Need-returns
 returns c =
-    one-more (c .before .before .before .before .before .before .before .before .before .before .before .before .before .args .sr .now) (c .before .before .before .before .before .before .before .before .before .before .before .before .before .args .e .now) (c .before .before .before .before .before .before .before .next-a .ensures) (c .before .before .sum-of .ensures)
+    let at-next-a = c .before .before .before .before .before .before .before in
+    let start = at-next-a .before .before .before .before .before .before in
+    one-more (start .args .sr .now) (start .args .e .now) (at-next-a .next-a .ensures) (c .before .before .sum-of .ensures)
 
 pub next-t-spec : {M : Type 1} → statement M
 next-t-spec =

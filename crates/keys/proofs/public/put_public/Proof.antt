@@ -5,10 +5,14 @@ use Rattle.keys.proofs.public.put_public.Statement.{statement}
 use Rattle.keys.proofs.public.put_public.Tie as tie
 
 residues-of-bytes-requires : tie.Need-residues-of-bytes-requires
-residues-of-bytes-requires c κs = s-asks (c .before .before .before .before .before .before .before .before .pre)
+residues-of-bytes-requires c κs =
+    let start = c .before .before .before .before .before .before .before .before in
+    s-asks (start .pre)
 
 write-mark-requires : tie.Need-write-mark-requires
-write-mark-requires c κs = mark-asks (c .before .before .before .before .before .before .before .before .before .before .before .before .pre)
+write-mark-requires c κs =
+    let start = c .before .before .before .before .before .before .before .before .before .before .before .before in
+    mark-asks (start .pre)
 
 put-t-requires : tie.Need-put-t-requires
 put-t-requires c κs =
@@ -17,7 +21,9 @@ put-t-requires c κs =
     put-asks (residues .before .before .before .before .before .before .before .before .before .pre) (residues .residues-of-bytes .ensures) (marks .write-mark .ensures)
 
 seed-start-requires : tie.Need-seed-start-requires
-seed-start-requires c κs = c .before .before .before .before .before .before .before .before .before .before .before .before .before .before .before .before .before .before .before .before .before .before .before .before .before .before .before .pre .writes .good
+seed-start-requires c κs =
+    let start = c .before .before .before .before .before .before .before .before .before .before .before .before .before .before .before .before .before .before .before .before .before .before .before .before .before .before .before in
+    start .pre .writes .good
 
 copy-at-requires : tie.Need-copy-at-requires
 copy-at-requires c κs =
@@ -27,13 +33,19 @@ copy-at-requires c κs =
     seed-asks (residues .before .before .before .before .before .before .before .before .before .pre) (residues .residues-of-bytes .ensures) (marks .write-mark .ensures) (packs .put-t .ensures) (c .seed-start .ensures)
 
 same-length : tie.Need-same-length
-same-length c = c .before .before .before .before .before .before .before .before .before .before .before .before .before .before .before .before .before .before .before .before .before .before .residues-of-bytes .kept .1 .1 .0
+same-length c =
+    let at-residues-of-bytes = c .before .before .before .before .before .before .before .before .before .before .before .before .before .before .before .before .before .before .before .before .before .before in
+    at-residues-of-bytes .residues-of-bytes .kept .1 .1 .0
 
 same-length-2 : tie.Need-same-length-2
-same-length-2 c = c .before .before .before .before .before .before .before .before .before .before .before .put-t .kept .1 .1 .1 .1 .0
+same-length-2 c =
+    let at-put-t = c .before .before .before .before .before .before .before .before .before .before .before in
+    at-put-t .put-t .kept .1 .1 .1 .1 .0
 
 same-length-3 : tie.Need-same-length-3
-same-length-3 c = c .before .before .before .before .before .before .before .before .before .before .before .put-t .kept .1 .1 .1 .1 .1 .0
+same-length-3 c =
+    let at-put-t = c .before .before .before .before .before .before .before .before .before .before .before in
+    at-put-t .put-t .kept .1 .1 .1 .1 .1 .0
 
 same-length-4 : tie.Need-same-length-4
 same-length-4 c =

@@ -17,11 +17,13 @@ abbrev μ-loop : tie.MeasureT-loop
 
 start-a-requires : tie.Need-start-a-requires Inv-loop μ-loop
 start-a-requires c κs =
-    c .before .before .before .before .before .before .pre .good
+    let start = c .before .before .before .before .before .before in
+    start .pre .good
 
 loop-holds : tie.Need-loop-holds Inv-loop μ-loop
 loop-holds c =
-    turn-none (c .before .before .before .before .before .before .before .pre) (c .start-a .ensures)
+    let start = c .before .before .before .before .before .before .before in
+    turn-none (start .pre) (c .start-a .ensures)
 
 -- in the loop's body i is below k
 below-k : (c : tie.In-loop Inv-loop μ-loop) → c .before .loop .i < c .before .before .before .before .before .before .before .before .before .args .set .k
@@ -31,7 +33,9 @@ below-k c = omega (arith, c .loop-test .taken)
 ends-inside : (c : tie.In-loop Inv-loop μ-loop)
     → let a = c .before .before .before .before .before .before .before .before .before .args in
     a .set .n * c .before .loop .i + a .set .n ≤ length (a .e .now)
-ends-inside c = part-inside (c .before .before .before .before .before .before .before .before .before .pre) (c .before .loop .i) (below-k c)
+ends-inside c =
+    let start = c .before .before .before .before .before .before .before .before .before in
+    part-inside (start .pre) (c .before .loop .i) (below-k c)
 
 mul-start : tie.Need-mul-start Inv-loop μ-loop
 mul-start c = omega (arith, ends-inside c)
@@ -55,8 +59,9 @@ next-t-requires c κs =
 
 pack-t-requires : tie.Need-pack-t-requires Inv-loop μ-loop
 pack-t-requires c κs =
+    let at-next-t = c .before .before .before .before .before .before in
     let turn = c .before .before .before .before .before .before .before .before .before .before in
-    pack-asks (turn .before .before .before .before .before .before .before .before .before .pre) (turn .before .loop .inv) (below-k turn) _ (omega (arith, ends-inside turn)) (c .before .before .before .before .before .before .next-t .ensures)
+    pack-asks (turn .before .before .before .before .before .before .before .before .before .pre) (turn .before .loop .inv) (below-k turn) _ (omega (arith, ends-inside turn)) (at-next-t .next-t .ensures)
 
 add-i : tie.Need-add-i Inv-loop μ-loop
 add-i c =
@@ -74,11 +79,13 @@ loop-again c =
 
 same-length : tie.Need-same-length Inv-loop μ-loop
 same-length c =
-    c .before .loop .inv .a-long ∙ sym (c .before .before .before .before .before .before .before .before .before .pre .a-long)
+    let start = c .before .before .before .before .before .before .before .before .before in
+    c .before .loop .inv .a-long ∙ sym (start .pre .a-long)
 
 same-length-2 : tie.Need-same-length-2 Inv-loop μ-loop
 same-length-2 c =
-    c .before .loop .inv .t-long ∙ sym (c .before .before .before .before .before .before .before .before .before .pre .t-long)
+    let start = c .before .before .before .before .before .before .before .before .before in
+    c .before .loop .inv .t-long ∙ sym (start .pre .t-long)
 
 same-length-3 : tie.Need-same-length-3 Inv-loop μ-loop
 same-length-3 c =
@@ -86,7 +93,8 @@ same-length-3 c =
 
 returns : tie.Need-returns Inv-loop μ-loop
 returns c =
-    turn-all (c .before .before .before .before .before .before .before .before .before .pre) (c .before .loop .inv) (omega (arith, c .loop-test .left))
+    let start = c .before .before .before .before .before .before .before .before .before in
+    turn-all (start .pre) (c .before .loop .inv) (omega (arith, c .loop-test .left))
 
 pub put-t-spec : {M : Type 1} → statement M
 put-t-spec =

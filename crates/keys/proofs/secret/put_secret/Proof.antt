@@ -7,7 +7,9 @@ use Rattle.keys.proofs.secret.put_secret.Statement.{statement}
 use Rattle.keys.proofs.secret.put_secret.Tie as tie
 
 seed-start-requires : tie.Need-seed-start-requires
-seed-start-requires c κs = c .before .before .before .before .before .before .pre .writes .good
+seed-start-requires c κs =
+    let start = c .before .before .before .before .before .before in
+    start .pre .writes .good
 
 sub-key-digest : tie.Need-sub-key-digest
 sub-key-digest c = omega (arith, c .seed-start .ensures)
@@ -16,19 +18,25 @@ part-key-digest-start : tie.Need-part-key-digest-start
 part-key-digest-start c = omega (arith, c .seed-start .ensures)
 
 part-key-digest-end : tie.Need-part-key-digest-end
-part-key-digest-end c = packed-inside (c .before .before .before .before .before .before .before .pre) (c .seed-start .ensures)
+part-key-digest-end c =
+    let start = c .before .before .before .before .before .before .before in
+    packed-inside (start .pre) (c .seed-start .ensures)
 
 slice-aggregate-key-digest : tie.Need-slice-aggregate-key-digest
 slice-aggregate-key-digest c = search needs
 
 key-digest-requires : tie.Need-key-digest-requires
-key-digest-requires c κs = record { good = c .before .before .before .before .before .before .before .before .before .pre .writes .good; long = refl }
+key-digest-requires c κs =
+    let start = c .before .before .before .before .before .before .before .before .before in
+    record { good = start .pre .writes .good; long = refl }
 
 slice-aggregate-put : tie.Need-slice-aggregate-put
 slice-aggregate-put c = search needs
 
 put-requires : tie.Need-put-requires
-put-requires c κs = g-asks (c .before .before .before .before .before .before .before .before .before .before .before .before .before .pre) _ (c .before .before .before .key-digest .kept .1 .1 .0)
+put-requires c κs =
+    let start = c .before .before .before .before .before .before .before .before .before .before .before .before .before in
+    g-asks (start .pre) _ (c .before .before .before .key-digest .kept .1 .1 .0)
 
 same-length : tie.Need-same-length
 same-length c = c .before .before .put .kept .1 .1 .1 .1 .1 .1 .0

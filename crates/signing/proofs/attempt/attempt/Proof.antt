@@ -37,20 +37,26 @@ same-length-5 c = search needs
 
 returns : tie.Need-returns
 returns c =
+    let at-commit = c .before .before .before .before .before .before .before .before .before .before in
     let start = c .before .before .before .before .before .before .before .before .before .before .before .before .before .before .before .before .before .before .before .before .before .before .before .before .before .before .before .before in
     let a = start .args in
-    let made = c .before .before .before .before .before .before .before .before .before .before .commit .ensures in
+    let made = at-commit .commit .ensures in
     attempt-overflows (start .pre .0) (start .pre .1) (a .seed-a .now) (a .g .now) (a .digest .now) (a .rand .now) (a .counter) (made .1 .1 .1) (not-true _ (c .if1 .taken))
 
 challenge-of-requires : tie.Need-challenge-of-requires
-challenge-of-requires c κs = c .before .before .before .before .before .before .before .before .before .before .before .before .before .before .before .before .before .before .before .before .before .before .before .before .before .before .before .before .before .before .pre .1 .c-long
+challenge-of-requires c κs =
+    let start = c .before .before .before .before .before .before .before .before .before .before .before .before .before .before .before .before .before .before .before .before .before .before .before .before .before .before .before .before .before .before in
+    start .pre .1 .c-long
 
 respond-requires : tie.Need-respond-requires
 respond-requires c κs =
+    let at-challenge-of = c .before .before .before .before .before .before .before .before in
+    let at-if1 = at-challenge-of .before .before .before in
+    let at-commit = at-if1 .before .before .before .before .before .before .before .before .before .before in
     let start = c .before .before .before .before .before .before .before .before .before .before .before .before .before .before .before .before .before .before .before .before .before .before .before .before .before .before .before .before .before .before .before .before .before .before .before .before .before .before .before in
     let a = start .args in
-    let made = c .before .before .before .before .before .before .before .before .before .before .before .before .before .before .before .before .before .before .before .before .before .commit .ensures in
-    attempt-responds (start .pre .0) (start .pre .1) (a .seed-a .now) (a .g .now) (a .digest .now) (a .rand .now) (a .counter) (made .1 .1 .1) (not-false _ (c .before .before .before .before .before .before .before .before .before .before .before .if1 .left)) (made .0) (made .1 .0) (made .1 .1 .0) (c .before .before .before .before .before .before .before .before .challenge-of .ensures) (digest-bytes (c .before .before .before .before .before .before .before .before .before .before .before .before .before .before .before .before .before .before .before .before .before .before .before .before .before .before .before .before .before .before .before .before .before .before)) (g-bytes (c .before .before .before .before .before .before .before .before .before .before .before .before .before .before .before .before .before .before .before .before .before .before .before .before .before .before .before .before .before .before .before .before .before .before .before))
+    let made = at-commit .commit .ensures in
+    attempt-responds (start .pre .0) (start .pre .1) (a .seed-a .now) (a .g .now) (a .digest .now) (a .rand .now) (a .counter) (made .1 .1 .1) (not-false _ (at-if1 .if1 .left)) (made .0) (made .1 .0) (made .1 .1 .0) (at-challenge-of .challenge-of .ensures) (digest-bytes (c .before .before .before .before .before .before .before .before .before .before .before .before .before .before .before .before .before .before .before .before .before .before .before .before .before .before .before .before .before .before .before .before .before .before)) (g-bytes (c .before .before .before .before .before .before .before .before .before .before .before .before .before .before .before .before .before .before .before .before .before .before .before .before .before .before .before .before .before .before .before .before .before .before .before))
 
 same-length-6 : tie.Need-same-length-6
 same-length-6 c = search needs
@@ -81,11 +87,15 @@ same-length-14 c = search needs
 
 returns-2 : tie.Need-returns-2
 returns-2 c =
+    let at-respond = c .before .before .before .before .before .before .before .before in
+    let at-challenge-of = at-respond .before .before .before .before .before .before .before .before .before in
+    let at-if1 = at-challenge-of .before .before .before in
+    let at-commit = at-if1 .before .before .before .before .before .before .before .before .before .before in
     let start = c .before .before .before .before .before .before .before .before .before .before .before .before .before .before .before .before .before .before .before .before .before .before .before .before .before .before .before .before .before .before .before .before .before .before .before .before .before .before .before .before .before .before .before .before .before .before .before .before in
     let a = start .args in
-    let made = c .before .before .before .before .before .before .before .before .before .before .before .before .before .before .before .before .before .before .before .before .before .before .before .before .before .before .before .before .before .before .commit .ensures in
-    let responded = c .before .before .before .before .before .before .before .before .respond .ensures in
-    attempt-passes (start .pre .0) (start .pre .1) (a .seed-a .now) (a .g .now) (a .digest .now) (a .rand .now) (a .counter) (made .1 .1 .1) (not-false _ (c .before .before .before .before .before .before .before .before .before .before .before .before .before .before .before .before .before .before .before .before .if1 .left)) (made .0) (made .1 .0) (made .1 .1 .0) (c .before .before .before .before .before .before .before .before .before .before .before .before .before .before .before .before .before .challenge-of .ensures) (digest-bytes (c .before .before .before .before .before .before .before .before .before .before .before .before .before .before .before .before .before .before .before .before .before .before .before .before .before .before .before .before .before .before .before .before .before .before .before .before .before .before .before .before .before .before .before)) (g-bytes (c .before .before .before .before .before .before .before .before .before .before .before .before .before .before .before .before .before .before .before .before .before .before .before .before .before .before .before .before .before .before .before .before .before .before .before .before .before .before .before .before .before .before .before .before)) (responded .0) (c .if2 .taken) (responded .1)
+    let made = at-commit .commit .ensures in
+    let responded = at-respond .respond .ensures in
+    attempt-passes (start .pre .0) (start .pre .1) (a .seed-a .now) (a .g .now) (a .digest .now) (a .rand .now) (a .counter) (made .1 .1 .1) (not-false _ (at-if1 .if1 .left)) (made .0) (made .1 .0) (made .1 .1 .0) (at-challenge-of .challenge-of .ensures) (digest-bytes (c .before .before .before .before .before .before .before .before .before .before .before .before .before .before .before .before .before .before .before .before .before .before .before .before .before .before .before .before .before .before .before .before .before .before .before .before .before .before .before .before .before .before .before)) (g-bytes (c .before .before .before .before .before .before .before .before .before .before .before .before .before .before .before .before .before .before .before .before .before .before .before .before .before .before .before .before .before .before .before .before .before .before .before .before .before .before .before .before .before .before .before .before)) (responded .0) (c .if2 .taken) (responded .1)
 
 same-length-15 : tie.Need-same-length-15
 same-length-15 c = search needs
@@ -116,11 +126,15 @@ same-length-23 c = search needs
 
 returns-3 : tie.Need-returns-3
 returns-3 c =
+    let at-respond = c .before .before .before .before .before .before .before .before in
+    let at-challenge-of = at-respond .before .before .before .before .before .before .before .before .before in
+    let at-if1 = at-challenge-of .before .before .before in
+    let at-commit = at-if1 .before .before .before .before .before .before .before .before .before .before in
     let start = c .before .before .before .before .before .before .before .before .before .before .before .before .before .before .before .before .before .before .before .before .before .before .before .before .before .before .before .before .before .before .before .before .before .before .before .before .before .before .before .before .before .before .before .before .before .before .before .before in
     let a = start .args in
-    let made = c .before .before .before .before .before .before .before .before .before .before .before .before .before .before .before .before .before .before .before .before .before .before .before .before .before .before .before .before .before .before .commit .ensures in
-    let responded = c .before .before .before .before .before .before .before .before .respond .ensures in
-    attempt-fails (start .pre .0) (start .pre .1) (a .seed-a .now) (a .g .now) (a .digest .now) (a .rand .now) (a .counter) (made .1 .1 .1) (not-false _ (c .before .before .before .before .before .before .before .before .before .before .before .before .before .before .before .before .before .before .before .before .if1 .left)) (made .0) (made .1 .0) (made .1 .1 .0) (c .before .before .before .before .before .before .before .before .before .before .before .before .before .before .before .before .before .challenge-of .ensures) (digest-bytes (c .before .before .before .before .before .before .before .before .before .before .before .before .before .before .before .before .before .before .before .before .before .before .before .before .before .before .before .before .before .before .before .before .before .before .before .before .before .before .before .before .before .before .before)) (g-bytes (c .before .before .before .before .before .before .before .before .before .before .before .before .before .before .before .before .before .before .before .before .before .before .before .before .before .before .before .before .before .before .before .before .before .before .before .before .before .before .before .before .before .before .before .before)) (responded .0) (c .if2 .left)
+    let made = at-commit .commit .ensures in
+    let responded = at-respond .respond .ensures in
+    attempt-fails (start .pre .0) (start .pre .1) (a .seed-a .now) (a .g .now) (a .digest .now) (a .rand .now) (a .counter) (made .1 .1 .1) (not-false _ (at-if1 .if1 .left)) (made .0) (made .1 .0) (made .1 .1 .0) (at-challenge-of .challenge-of .ensures) (digest-bytes (c .before .before .before .before .before .before .before .before .before .before .before .before .before .before .before .before .before .before .before .before .before .before .before .before .before .before .before .before .before .before .before .before .before .before .before .before .before .before .before .before .before .before .before)) (g-bytes (c .before .before .before .before .before .before .before .before .before .before .before .before .before .before .before .before .before .before .before .before .before .before .before .before .before .before .before .before .before .before .before .before .before .before .before .before .before .before .before .before .before .before .before .before)) (responded .0) (c .if2 .left)
 
 pub attempt-spec : {M : Type 1} → statement M
 attempt-spec =

@@ -5,19 +5,28 @@ use Rattle.signing.proofs.attempt.commit.Statement.{statement}
 use Rattle.signing.proofs.attempt.commit.Tie as tie
 
 draw-y-requires : tie.Need-draw-y-requires
-draw-y-requires c κs = record { good = c .before .before .before .before .before .before .before .pre .good; long = c .before .before .before .before .before .before .before .pre .y-long }
+draw-y-requires c κs =
+    let start = c .before .before .before .before .before .before .before in
+    record { good = start .pre .good; long = start .pre .y-long }
 
 residues-of-requires : tie.Need-residues-of-requires
-residues-of-requires c κs = commit-small (c .before .before .before .before .before .before .before .before .before .before .before .pre) (c .before .before .before .before .before .before .before .before .before .before .before .args .rand .now) (c .before .before .before .before .before .before .before .before .before .before .before .args .counter) (c .before .before .before .draw-y .ensures)
+residues-of-requires c κs =
+    let start = c .before .before .before .before .before .before .before .before .before .before .before in
+    commit-small (start .pre) (start .args .rand .now) (start .args .counter) (c .before .before .before .draw-y .ensures)
 
 products-requires : tie.Need-products-requires
 products-requires c κs =
-    commit-multiplies (c .before .before .before .before .before .before .before .before .before .before .before .before .before .before .before .before .before .pre) (c .before .before .before .before .before .before .before .before .before .before .before .before .before .before .before .before .before .args .rand .now) (c .before .before .before .before .before .before .before .before .before .before .before .before .before .before .before .before .before .args .counter) (c .before .before .before .before .before .before .before .before .before .draw-y .ensures) (c .before .before .before .before .before .residues-of .ensures)
+    let at-draw-y = c .before .before .before .before .before .before .before .before .before in
+    let start = at-draw-y .before .before .before .before .before .before .before .before in
+    commit-multiplies (start .pre) (start .args .rand .now) (start .args .counter) (at-draw-y .draw-y .ensures) (c .before .before .before .before .before .residues-of .ensures)
 
 absorb-highs-requires : tie.Need-absorb-highs-requires
 absorb-highs-requires c κs =
+    let at-products = c .before .before .before .before .before .before in
+    let at-residues-of = at-products .before .before .before .before .before .before in
+    let at-draw-y = at-residues-of .before .before .before .before in
     let start = c .before .before .before .before .before .before .before .before .before .before .before .before .before .before .before .before .before .before .before .before .before .before .before .before in
-    commit-absorbs (start .pre) (start .args .rand .now) (start .args .counter) (c .before .before .before .before .before .before .before .before .before .before .before .before .before .before .before .before .draw-y .ensures) (c .before .before .before .before .before .before .before .before .before .before .before .before .residues-of .ensures) (start .args .seed-a .now) (c .before .before .before .before .before .before .products .ensures)
+    commit-absorbs (start .pre) (start .args .rand .now) (start .args .counter) (at-draw-y .draw-y .ensures) (at-residues-of .residues-of .ensures) (start .args .seed-a .now) (at-products .products .ensures)
 
 same-length : tie.Need-same-length
 same-length c = search needs
@@ -36,10 +45,13 @@ same-length-5 c = search needs
 
 returns : tie.Need-returns
 returns c =
+    let at-products = c .before .before .before .before .before .before .before .before .before in
+    let at-residues-of = at-products .before .before .before .before .before .before in
+    let at-draw-y = at-residues-of .before .before .before .before in
     let start = c .before .before .before .before .before .before .before .before .before .before .before .before .before .before .before .before .before .before .before .before .before .before .before .before .before .before .before in
-    let y = c .before .before .before .before .before .before .before .before .before .before .before .before .before .before .before .before .before .before .before .draw-y .ensures in
-    let yr = c .before .before .before .before .before .before .before .before .before .before .before .before .before .before .before .residues-of .ensures in
-    let v = c .before .before .before .before .before .before .before .before .before .products .ensures in
+    let y = at-draw-y .draw-y .ensures in
+    let yr = at-residues-of .residues-of .ensures in
+    let v = at-products .products .ensures in
     let absorbed = c .before .before .absorb-highs .ensures in
     let highs = commit-highs (start .pre) (start .args .rand .now) (start .args .counter) y yr (start .args .seed-a .now) v in
     (y, (commit-v (start .pre) (start .args .rand .now) (start .args .counter) y yr (start .args .seed-a .now) v, (rw highs at (absorbed .0), rw highs at (absorbed .1))))

@@ -14,16 +14,21 @@ times-bytes-requires : tie.Need-times-bytes-requires
 times-bytes-requires c κs = w-product (c .before .before .before .before .pre) (bytes (c .before .before .before))
 
 subtract-small-requires : tie.Need-subtract-small-requires
-subtract-small-requires c κs = w-small (c .before .before .before .before .before .before .before .before .pre) (bytes (c .before .before .before .before .before .before .before)) (c .before .before .before .times-bytes .ensures)
+subtract-small-requires c κs =
+    let start = c .before .before .before .before .before .before .before .before in
+    w-small (start .pre) (bytes (c .before .before .before .before .before .before .before)) (c .before .before .before .times-bytes .ensures)
 
 all-low-requires : tie.Need-all-low-requires
 all-low-requires c κs =
-    w-low (c .before .before .before .before .before .before .before .before .before .before .before .before .pre) (bytes (c .before .before .before .before .before .before .before .before .before .before .before)) (c .before .before .before .before .before .before .before .times-bytes .ensures) (c .before .before .before .subtract-small .ensures)
+    let at-times-bytes = c .before .before .before .before .before .before .before in
+    let start = at-times-bytes .before .before .before .before .before in
+    w-low (start .pre) (bytes (c .before .before .before .before .before .before .before .before .before .before .before)) (at-times-bytes .times-bytes .ensures) (c .before .before .before .subtract-small .ensures)
 
 all-sized-requires : tie.Need-all-sized-requires
 all-sized-requires c κs =
+    let at-subtract-small = c .before .before .before .before .before .before in
     let product = c .before .before .before .before .before .before .before .before .before .before in
-    w-sized (product .before .before .before .before .before .pre) (bytes (product .before .before .before .before)) (product .times-bytes .ensures) (c .before .before .before .before .before .before .subtract-small .ensures)
+    w-sized (product .before .before .before .before .before .pre) (bytes (product .before .before .before .before)) (product .times-bytes .ensures) (at-subtract-small .subtract-small .ensures)
 
 same-length : tie.Need-same-length
 same-length c = search needs
@@ -33,8 +38,9 @@ same-length-2 c = search needs
 
 returns : tie.Need-returns
 returns c =
+    let at-subtract-small = c .before .before .before .before .before .before .before in
     let product = c .before .before .before .before .before .before .before .before .before .before .before in
-    w-both (product .before .before .before .before .before .pre) (bytes (product .before .before .before .before)) (product .times-bytes .ensures) (c .before .before .before .before .before .before .before .subtract-small .ensures) (c .before .before .before .all-low .ensures) (c .before .before .if1 .taken) (c .all-sized .ensures)
+    w-both (product .before .before .before .before .before .pre) (bytes (product .before .before .before .before)) (product .times-bytes .ensures) (at-subtract-small .subtract-small .ensures) (c .before .before .before .all-low .ensures) (c .before .before .if1 .taken) (c .all-sized .ensures)
 
 same-length-3 : tie.Need-same-length-3
 same-length-3 c = search needs

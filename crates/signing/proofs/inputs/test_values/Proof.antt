@@ -24,14 +24,19 @@ budget-fits-requires c κs = search needs
 
 returns-3 : tie.Need-returns-3
 returns-3 c =
-    let a = c .before .before .before .before .before .before .before .args in
+    let start = c .before .before .before .before .before .before .before in
+    let a = start .args in
     values-budget (a .set) (a .secret .now) (a .message) (a .budget) (c .before .before .before .before .is-marked .ensures) (not-false _ (c .before .before .before .if1 .left)) (c .before .before .if2 .left) (c .before .budget-fits .ensures) (not-true _ (c .if3 .taken))
 
 e-start-requires : tie.Need-e-start-requires
-e-start-requires c κs = c .before .before .before .before .before .before .before .pre .good
+e-start-requires c κs =
+    let start = c .before .before .before .before .before .before .before in
+    start .pre .good
 
 seed-a-start-requires : tie.Need-seed-a-start-requires
-seed-a-start-requires c κs = c .before .before .before .before .before .before .before .before .pre .good
+seed-a-start-requires c κs =
+    let start = c .before .before .before .before .before .before .before .before in
+    start .pre .good
 
 sub-test-secrets : tie.Need-sub-test-secrets
 sub-test-secrets c = omega (arith, c .before .e-start .ensures)
@@ -40,7 +45,9 @@ part-test-secrets-start : tie.Need-part-test-secrets-start
 part-test-secrets-start c = omega (arith, c .before .e-start .ensures)
 
 part-test-secrets-end : tie.Need-part-test-secrets-end
-part-test-secrets-end c = omega (arith, s-end (c .before .before .before .before .before .before .before .before .before .args .set) (c .before .before .before .before .before .before .before .before .before .args .secret .now) (c .before .before .before .before .before .before .before .before .before .pre .long) (c .before .e-start .ensures) (c .seed-a-start .ensures))
+part-test-secrets-end c =
+    let start = c .before .before .before .before .before .before .before .before .before in
+    omega (arith, s-end (start .args .set) (start .args .secret .now) (start .pre .long) (c .before .e-start .ensures) (c .seed-a-start .ensures))
 
 sub-test-secrets-2 : tie.Need-sub-test-secrets-2
 sub-test-secrets-2 c = omega (arith, c .before .before .e-start .ensures, c .before .seed-a-start .ensures)
@@ -49,21 +56,32 @@ part-test-secrets-start-2 : tie.Need-part-test-secrets-start-2
 part-test-secrets-start-2 c = omega (arith, c .before .before .e-start .ensures, c .before .seed-a-start .ensures)
 
 part-test-secrets-end-2 : tie.Need-part-test-secrets-end-2
-part-test-secrets-end-2 c = omega (arith, e-ends (c .before .before .before .before .before .before .before .before .before .before .args .set) (c .before .before .before .before .before .before .before .before .before .before .args .secret .now) (c .before .before .before .before .before .before .before .before .before .before .pre .long) (c .before .before .e-start .ensures) (c .before .seed-a-start .ensures))
+part-test-secrets-end-2 c =
+    let start = c .before .before .before .before .before .before .before .before .before .before in
+    omega (arith, e-ends (start .args .set) (start .args .secret .now) (start .pre .long) (c .before .before .e-start .ensures) (c .before .seed-a-start .ensures))
 
 test-secrets-requires : tie.Need-test-secrets-requires
-test-secrets-requires c κs = e-tests (c .before .before .before .before .before .before .before .before .before .before .before .before .pre) (c .before .before .before .before .e-start .ensures) (c .before .before .before .seed-a-start .ensures)
+test-secrets-requires c κs =
+    let start = c .before .before .before .before .before .before .before .before .before .before .before .before in
+    e-tests (start .pre) (c .before .before .before .before .e-start .ensures) (c .before .before .before .seed-a-start .ensures)
 
 same-length : tie.Need-same-length
 same-length c = search needs
 
 returns-4 : tie.Need-returns-4
 returns-4 c =
+    let at-seed-a-start = c .before .before .before .before .before .before in
+    let at-e-start = at-seed-a-start .before in
+    let at-if3 = at-e-start .before in
+    let at-budget-fits = at-if3 .before in
+    let at-if2 = at-budget-fits .before in
+    let at-if1 = at-if2 .before in
+    let at-is-marked = at-if1 .before in
     let start = c .before .before .before .before .before .before .before .before .before .before .before .before .before .before .before in
     let a = start .args in
-    let at = c .before .before .before .before .before .before .before .e-start .ensures in
-    let end = c .before .before .before .before .before .before .seed-a-start .ensures in
-    values-rest (a .set) (a .secret .now) (a .message) (a .budget) (c .before .before .before .before .before .before .before .before .before .before .before .before .is-marked .ensures) (not-false _ (c .before .before .before .before .before .before .before .before .before .before .before .if1 .left)) (c .before .before .before .before .before .before .before .before .before .before .if2 .left) (c .before .before .before .before .before .before .before .before .before .budget-fits .ensures) (not-false _ (c .before .before .before .before .before .before .before .before .if3 .left)) (s-lent (a .set) (a .secret .now) (start .pre .long) at end) (e-lent (a .set) (a .secret .now) (start .pre .long) at end) (c .before .before .test-secrets .ensures)
+    let at = at-e-start .e-start .ensures in
+    let end = at-seed-a-start .seed-a-start .ensures in
+    values-rest (a .set) (a .secret .now) (a .message) (a .budget) (at-is-marked .is-marked .ensures) (not-false _ (at-if1 .if1 .left)) (at-if2 .if2 .left) (at-budget-fits .budget-fits .ensures) (not-false _ (at-if3 .if3 .left)) (s-lent (a .set) (a .secret .now) (start .pre .long) at end) (e-lent (a .set) (a .secret .now) (start .pre .long) at end) (c .before .before .test-secrets .ensures)
 
 pub test-values-spec : {M : Type 1} → statement M
 test-values-spec =
