@@ -3,19 +3,19 @@
 --     hash-high, hash-differs, hash-accepts      the last two tests
 -- Assumes nothing.
 use mathlib.Core.Path.{_≡_, refl, sym, ap, subst, _∙_}
-use mathlib.Core.Bool.{Bool, true, false, cond, _&&_}
+use mathlib.Core.Bool.{Bool, true, false, _&&_}
 use mathlib.Core.Logic.{⊎-elim}
 use types.Run.{OneOf}
 use denote.Enum.Declared.{tagOf}
-use mathlib.Core.List.{List, [], _∷_, _++_}
+use mathlib.Core.List.{List, [], _∷_}
 use Prim.Native.Nat.{ℕ, suc, _≤_, _<_}
 use native.Mathlib.Omega.{arith}
 use lib.Dec.{eqb, lit<}
 use lib.IntN.{ℤ}
 use lib.ListN.{length}
 use borrow.Author.Tests.{eqb-true, le-leb, lt-leb}
-use Rattle.whole.specs.Refusal.{Test, answer, sameBytes}
-use Rattle.whole.specs.RefusalLaws.{both-first, both-second, answer-pass, answer-fail, answer-none, answer-first, answer-rest}
+use Rattle.whole.specs.Refusal.{answer, sameBytes}
+use Rattle.whole.specs.RefusalLaws.{both-first, both-second, answer-pass, answer-fail, answer-none, answer-first, answer-rest, answer-before}
 use Rattle.sets.specs.declared.Numbers.{Numbers}
 use Rattle.sets.specs.SetI.{setI, setI-good}
 use Rattle.sets.specs.Limits.{messageLimit}
@@ -34,16 +34,6 @@ use Rattle.checking.proofs.CheckAnswer.{the-type}
 -- where the first of two tests passes the second decides
 pub second-decides : {a : Bool} (b : Bool) → a ≡ true → b ≡ (a && b)
 second-decides b e = rw e
-
--- a refusal among the first tests is the answer, whatever follows them
-answer-before : (m : ℕ) (xs ys : List Test) → answer xs ≡ suc m → answer (xs ++ ys) ≡ suc m
-unfolding answer
-answer-before m [] ys e = absurd (omega arith)
-answer-before m (x ∷ xs) ys e = go (answer-before m xs ys) (x .passes) e
-  where
-    go : (answer xs ≡ suc m → answer (xs ++ ys) ≡ suc m) → (b : Bool) → cond b (answer xs) (x .number) ≡ suc m → cond b (answer (xs ++ ys)) (x .number) ≡ suc m
-    go rest true h = rest h
-    go rest false h = h
 
 -- ---- the last two
 

@@ -27,6 +27,7 @@ use Rattle.ring.specs.Lists.{length-residues, residues-below}
 use Rattle.sets.specs.declared.Numbers.{Numbers}
 use Rattle.sets.specs.Good.{Good}
 use Rattle.sets.specs.Marks.{streamMark, fresh}
+use Rattle.sets.specs.GoodLaws.{q-some}
 use Rattle.sampling.specs.Streams.{allA}
 use Rattle.sampling.specs.declared.drawn.DrawA.{DrawA}
 use Rattle.sampling.specs.DrawA.{valuesLeft, AfterA}
@@ -45,7 +46,7 @@ wFrom-length set a t zr ps ss = length-residues (set .q) (set .n) _
 
 wFrom-below : (set : Numbers) → Good set → (a t zr ps : List ℕ) (ss : List ℤ) → Below (set .q) (wFrom set a t zr ps ss)
 unfolding wFrom
-wFrom-below set good a t zr ps ss = residues-below (set .q) (set .n) _ (omega (arith, good .q-large))
+wFrom-below set good a t zr ps ss = residues-below (set .q) (set .n) _ (q-some good)
 
 -- ---- one step
 

@@ -32,6 +32,24 @@ pub enum CheckAnswer {
     Hash,
 }
 
+impl CheckAnswer {
+    // Document 01's number.
+    pub fn number(self) -> u8
+        ensures { λ r. ⌜ r ≡ checkAnswerNumber self ⌝ }
+    {
+        match self {
+            CheckAnswer::Accepted => 0,
+            CheckAnswer::Length => 1,
+            CheckAnswer::Mark => 2,
+            CheckAnswer::Message => 3,
+            CheckAnswer::Coefficient => 5,
+            CheckAnswer::Z => 9,
+            CheckAnswer::High => 10,
+            CheckAnswer::Hash => 11,
+        }
+    }
+}
+
 // Any good set: whether the signature record on the message passes under the public record. The places that are lent hold one
 // polynomial each, and h positions and signs.
 fn check_in(

@@ -11,19 +11,19 @@ use lib.IntN.{ℤ, pos, natAbs, _+ℤ_, _-ℤ_}
 use borrow.Author.Tests.{eq-eqb, leb-true, le-leb}
 use Rattle.whole.specs.Int.{int, minus-is, sum-is}
 use Rattle.whole.specs.Residue.{residue, residue-same, Same, same-eq, same-trans, same-add, same-refl}
-use Rattle.whole.specs.Table.{length-table, getD-table, joined-ext, joined-part, joined-length}
-use Rattle.whole.specs.Below.{Below, below-joined}
+use Rattle.whole.specs.Table.{length-table, getD-table, joined-ext, joined-part}
 use Rattle.whole.specs.Refusal.{answer, every, eachBelow, sameBytes}
 use Rattle.whole.specs.RefusalLaws.{both, both-first, both-second, answer-pass, answer-none, every-at, eachBelow-at, same-refl-bytes}
 use Rattle.rounding.specs.Parts.{high}
 use Rattle.rounding.specs.Tests.{lowPasses, sizePasses, fitsByte}
 use Rattle.ring.specs.Product.{mul}
-use Rattle.ring.specs.Lists.{naturals, integers, signedBytes, residues, residues-below}
+use Rattle.ring.specs.Lists.{naturals, integers, signedBytes, residues}
 use Rattle.ring.specs.Largest.{largest, sizes, sumPasses}
 use Rattle.ring.specs.Bound.{AtMost, bytes-bound}
 use Rattle.sets.specs.declared.Numbers.{Numbers}
 use Rattle.sets.specs.Good.{Good}
 use Rattle.sets.specs.Limits.{messageLimit}
+use Rattle.sets.specs.GoodLaws.{q-some}
 use Rattle.sampling.specs.Positions.{Drawn, polynomialOf}
 use Rattle.sampling.specs.StreamsLaws.{shake-length, encOf-small, encOf-total}
 use Rattle.sampling.specs.Streams.{aOf, yOf, encOf, challenge, messageDigest, keyDigest}
@@ -34,7 +34,9 @@ use Rattle.records.specs.Signature.{signatureRecord, zOf, challengeOf, zInRange
 use Rattle.records.specs.PublicLaws.{polynomial-length, below-tInRange, publicRecord-length, public-marked, public-packed, public-seedA, public-t, public-allT}
 use Rattle.records.specs.SignatureLaws.{signatureRecord-length, signature-marked, signature-challenge, signature-z}
 use Rattle.keys.specs.Key.{keyT, allKeyT, publicOf, eachEPasses}
+use Rattle.keys.specs.KeyLaws.{keyT-length, allKeyT-length, allKeyT-below}
 use Rattle.signing.specs.Attempt.{Key, passes, fails, overflows, highsOf, vOf, zFrom, wOf, wPasses, attemptPasses, answered, tried, attempt}
+use Rattle.signing.specs.AttemptLaws.{vOf-length, wOf-length, zFrom-length}
 use Rattle.checking.specs.Check.{checkW, checkHighs, publicG, checkTests}
 use Rattle.demands.specs.Alike.{same-w, alike}
 
@@ -80,18 +82,6 @@ passing set key digest rand counter z c′ e = outer set key digest rand counter
 
 -- ---- lengths
 
-pub vOf-length : (set : Numbers) (seedA : List ℕ) (y : List ℤ) (i : ℕ) → length (vOf set seedA y i) ≡ set .n
-unfolding vOf
-vOf-length set seedA y i = length-table (set .n) _
-
-pub wOf-length : (set : Numbers) (e : List ℕ) (v : ℕ → List ℕ) (c : List Drawn) (i : ℕ) → length (wOf set e v c i) ≡ set .n
-unfolding wOf
-wOf-length set e v c i = length-table (set .n) _
-
-pub zFrom-length : (set : Numbers) (s : List ℕ) (y : List ℤ) (c : List Drawn) → length (zFrom set s y c) ≡ set .n
-unfolding zFrom
-zFrom-length set s y c = length-table (set .n) _
-
 pub challenge-length : (set : Numbers) (highs : List ℤ) (digest g : List ℕ) → length (challenge set highs digest g) ≡ seedBytes
 unfolding challenge
 challenge-length set highs digest g = shake-length _ 32
@@ -125,43 +115,28 @@ module _ (set : Numbers) (good : Good set) (s e seedA : List ℕ) where
   abbrev pub madeKey : Key
   madeKey = record { s = s; e = e; seedA = seedA; g = keyDigest set (packedT set madeT) }
 
-  keyT-length : (i : ℕ) → length (keyT set s e seedA i) ≡ set .n
-  unfolding keyT
-  keyT-length i = length-table (set .n) _
-
-  q-some : 0 < set .q
-  q-some = omega (arith, good .q-large)
-
-  pub madeT-length : length madeT ≡ set .k * set .n
-  unfolding allKeyT
-  madeT-length = joined-length (set .k) (set .n) (keyT set s e seedA) (λ i l. keyT-length i)
-
-  pub madeT-below : Below (set .q) madeT
-  unfolding allKeyT keyT
-  madeT-below = below-joined (set .q) (set .k) (keyT set s e seedA) (λ i l. residues-below (set .q) (set .n) _ q-some)
-
   made-t : (i : ℕ) → i < set .k → tOf set (publicOf set s e seedA) i ≡ keyT set s e seedA i
   unfolding publicOf allKeyT
   made-t i l =
-      public-t set madeT seedA madeT-length good madeT-below i l
-      ∙ joined-part (set .k) (set .n) i (keyT set s e seedA) (λ j m. keyT-length j) l
+      public-t set madeT seedA (allKeyT-length set s e seedA) good (allKeyT-below set s e seedA good) i l
+      ∙ joined-part (set .k) (set .n) i (keyT set s e seedA) (λ j m. keyT-length set s e seedA j) l
 
   -- what the public record reads back as
   pub made-length : length seedA ≡ seedBytes → length (publicOf set s e seedA) ≡ publicBytes set
   unfolding publicOf
-  made-length h = publicRecord-length set madeT seedA madeT-length h
+  made-length h = publicRecord-length set madeT seedA (allKeyT-length set s e seedA) h
 
   pub made-allT : allT set (publicOf set s e seedA) ≡ madeT
   unfolding publicOf
-  made-allT = public-allT set madeT seedA madeT-length good madeT-below
+  made-allT = public-allT set madeT seedA (allKeyT-length set s e seedA) good (allKeyT-below set s e seedA good)
 
   pub made-seedA : length seedA ≡ seedBytes → seedAOf set (publicOf set s e seedA) ≡ seedA
   unfolding publicOf
-  made-seedA h = public-seedA set madeT seedA madeT-length h
+  made-seedA h = public-seedA set madeT seedA (allKeyT-length set s e seedA) h
 
   pub made-g : publicG set (publicOf set s e seedA) ≡ keyDigest set (packedT set madeT)
   unfolding publicOf publicG
-  made-g = ap (keyDigest set) (public-packed set madeT seedA madeT-length)
+  made-g = ap (keyDigest set) (public-packed set madeT seedA (allKeyT-length set s e seedA))
 
   -- ---- the receiver's high parts are the signer's
 
@@ -181,7 +156,7 @@ module _ (set : Numbers) (good : Good set) (s e seedA : List ℕ) where
         → high (set .q) (set .d) (pos (getD (wOf set e (vOf set seedA y) (encOf set c′) i) j 0)) ≡ high (set .q) (set .d) (pos (getD (vOf set seedA y i) j 0))
     unfolding wPasses wOf
     one-coefficient i j l m =
-        alike (set .q) (set .d) (set .e) (getD (vOf set seedA y i) j 0) (getD w j 0) x q-some
+        alike (set .q) (set .d) (set .e) (getD (vOf set seedA y i) j 0) (getD w j 0) x (q-some good)
         (every-at lows w j 0 (both-first (every lows w) (every sized w) both-pass) long)
         (every-at sized w j 0 (both-second (every lows w) (every sized w) both-pass) long)
         moved (small i j l m)
@@ -216,7 +191,7 @@ module _ (set : Numbers) (good : Good set) (s e seedA : List ℕ) where
         moved : Same (set .q) (pos (getD (vOf set seedA y i) j 0)) (pos (getD w j 0) +ℤ x)
         moved =
             same-trans (same-eq (set .q) apart)
-            (same-add (same-trans (residue-same (set .q) (v -ℤ x) q-some) (same-eq (set .q) (ap pos (sym w-is)))) (same-refl (set .q) x))
+            (same-add (same-trans (residue-same (set .q) (v -ℤ x) (q-some good)) (same-eq (set .q) (ap pos (sym w-is)))) (same-refl (set .q) x))
 
     -- t_i is read from the record as key making made it
     same-t : (i : ℕ) → i < set .k
@@ -246,7 +221,7 @@ module _ (set : Numbers) (good : Good set) (s e seedA : List ℕ) where
         W i = wOf set e (vOf set seedA y) (encOf set c′) i
 
         receiver : (i : ℕ) → i < set .k → checkW set seedA (tOf set (publicOf set s e seedA)) (zFrom set s y (encOf set c′)) c′ i ≡ W i
-        receiver i l = same-t i l ∙ same-w set q-some s e seedA y c′ i
+        receiver i l = same-t i l ∙ same-w set (q-some good) s e seedA y c′ i
 
         each : (i : ℕ) → i < set .k → map (λ x. high (set .q) (set .d) (pos x)) (checkW set seedA (tOf set (publicOf set s e seedA)) (zFrom set s y (encOf set c′)) c′ i) ≡ map (λ x. high (set .q) (set .d) (pos x)) (vOf set seedA y i)
         each i l = ap (map (λ x. high (set .q) (set .d) (pos x))) (receiver i l) ∙ alike-lists i l
@@ -266,7 +241,7 @@ module _ (set : Numbers) (good : Good set) (s e seedA message : List ℕ) where
         answer-pass 1 _ (both (eq-eqb _ _ public-long) (eq-eqb _ _ (signatureRecord-length set z c′ z-long c-long)))
         ∙ answer-pass 2 _ (both public-mark (signature-marked set z c′))
         ∙ answer-pass 3 _ (le-leb (length message) messageLimit short)
-        ∙ answer-pass 5 _ (below-tInRange set (allT set public) (rw public-t-is (madeT-below set good s e seedA)))
+        ∙ answer-pass 5 _ (below-tInRange set (allT set public) (rw public-t-is (allKeyT-below set s e seedA good)))
         ∙ answer-pass 9 _ (ap (zInRange set) z-back ∙ z-passes)
         ∙ answer-pass 10 _ (ap (every fitsByte) highs-are ∙ p .fits)
         ∙ answer-pass 11 _ (ap₂ sameBytes hash-is c-back ∙ same-refl-bytes c′)
@@ -291,7 +266,7 @@ module _ (set : Numbers) (good : Good set) (s e seedA message : List ℕ) where
         p = passing set key (messageDigest set message) rand counter z c′ a
 
         t-long : length t ≡ set .k * set .n
-        t-long = madeT-length set good s e seedA
+        t-long = allKeyT-length set s e seedA
 
         z-long : length z ≡ set .n
         z-long = ap length (sym (p .is)) ∙ zFrom-length set s y (encOf set c′)

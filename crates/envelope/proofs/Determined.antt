@@ -3,14 +3,10 @@
 -- Assumes nothing.
 use mathlib.Core.Path.{_≡_, refl, sym, ap, _∙_}
 use mathlib.Core.Bool.{cond}
-use mathlib.Core.List.{List}
 use Prim.Native.Nat.{ℕ}
 use lib.Dec.{eqb}
-use contract.Lifetimes.{Lfts}
-use borrow.Fn.Kinds.{PK, RK, Out, Dens, resT, endedOf}
 use denote.Ref.{now}
-use denote.Triple.Clauses.{AtExit}
-use Rattle.whole.specs.Determined.{Result, Output}
+use Rattle.whole.specs.Determined.{Result, Output, Held}
 use Rattle.envelope.specs.declared.WriteEnvelope.{WriteEnvelope}
 use Rattle.envelope.specs.declared.WriteEnvelope.the-variants.{Done, Length, Mark, Message, Z}
 use Rattle.envelope.specs.declared.ReadEnvelope.{ReadEnvelope}
@@ -28,6 +24,20 @@ use Rattle.envelope.proofs.roster.Kinds as roster-kinds
 use Rattle.envelope.proofs.roster.Reads as roster
 use Rattle.envelope.proofs.signature.Kinds as signature-kinds
 use Rattle.envelope.proofs.signature.Reads as signature
+use Rattle.envelope.proofs.WriteEnvelope.number.Kinds as write-envelope-number-kinds
+use Rattle.envelope.proofs.WriteEnvelope.number.Reads as write-envelope-number
+use Rattle.envelope.proofs.ReadEnvelope.number.Kinds as read-envelope-number-kinds
+use Rattle.envelope.proofs.ReadEnvelope.number.Reads as read-envelope-number
+use Rattle.envelope.proofs.ReadEnvelope.team.Kinds as read-envelope-team-kinds
+use Rattle.envelope.proofs.ReadEnvelope.team.Reads as read-envelope-team
+use Rattle.envelope.proofs.ReadEnvelope.len.Kinds as read-envelope-len-kinds
+use Rattle.envelope.proofs.ReadEnvelope.len.Reads as read-envelope-len
+use Rattle.envelope.proofs.Opened.number.Kinds as opened-number-kinds
+use Rattle.envelope.proofs.Opened.number.Reads as opened-number
+use Rattle.envelope.proofs.Opened.team.Kinds as opened-team-kinds
+use Rattle.envelope.proofs.Opened.team.Reads as opened-team
+use Rattle.envelope.proofs.Opened.len.Kinds as opened-len-kinds
+use Rattle.envelope.proofs.Opened.len.Reads as opened-len
 
 -- ---- writing
 
@@ -94,14 +104,31 @@ open-determined κs a x y e f p q =
 
 -- ---- the parts
 
--- two references that come back hold the same: nothing more is promised of them
-abbrev Held : (n : ℕ) (ps : List (PK n)) (r : RK n) → Out n ps r → {X : Type 0} → ((κs : Lfts n) → resT r κs .Denot → X) → Type 0
-Held n ps r Learnt held =
-    (κs : Lfts n) (a : Dens κs ps) (x y : resT r κs .Denot) (e f : AtExit (endedOf n ps r) κs)
-    → Learnt κs a x e → Learnt κs a y f → held κs x ≡ held κs y
-
 pub roster-determined : Held 1 roster-kinds.ps roster-kinds.r roster.Learnt (λ κs x. now x)
 roster-determined κs a x y e f p q = p ∙ sym q
 
 pub signature-determined : Held 1 signature-kinds.ps signature-kinds.r signature.Learnt (λ κs x. now x)
 signature-determined κs a x y e f p q = p ∙ sym q
+
+-- ---- the number of an answer, and what comes with it
+
+pub write-envelope-number-determined : Result 0 write-envelope-number-kinds.ps write-envelope-number-kinds.r write-envelope-number.Learnt
+write-envelope-number-determined κs a x y e f p q = p ∙ sym q
+
+pub read-envelope-number-determined : Result 0 read-envelope-number-kinds.ps read-envelope-number-kinds.r read-envelope-number.Learnt
+read-envelope-number-determined κs a x y e f p q = p ∙ sym q
+
+pub read-envelope-team-determined : Result 0 read-envelope-team-kinds.ps read-envelope-team-kinds.r read-envelope-team.Learnt
+read-envelope-team-determined κs a x y e f p q = p ∙ sym q
+
+pub read-envelope-len-determined : Result 0 read-envelope-len-kinds.ps read-envelope-len-kinds.r read-envelope-len.Learnt
+read-envelope-len-determined κs a x y e f p q = p ∙ sym q
+
+pub opened-number-determined : Result 0 opened-number-kinds.ps opened-number-kinds.r opened-number.Learnt
+opened-number-determined κs a x y e f p q = p ∙ sym q
+
+pub opened-team-determined : Result 0 opened-team-kinds.ps opened-team-kinds.r opened-team.Learnt
+opened-team-determined κs a x y e f p q = p ∙ sym q
+
+pub opened-len-determined : Result 0 opened-len-kinds.ps opened-len-kinds.r opened-len.Learnt
+opened-len-determined κs a x y e f p q = p ∙ sym q

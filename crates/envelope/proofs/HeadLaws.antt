@@ -7,7 +7,7 @@
 --     rest-answered                                   the tests that follow the head's decide
 -- Assumes nothing.
 use mathlib.Core.Path.{_≡_, refl, sym, ap, ap₂, _∙_}
-use mathlib.Core.Bool.{Bool, true, false, cond}
+use mathlib.Core.Bool.{Bool, true, false}
 use mathlib.Core.List.{List, [], _∷_, _++_}
 use Prim.Native.Nat.{ℕ, suc, _+_, _*_, _-_, _≤_, _<_}
 use native.Mathlib.Nat.{mul-le-mul}
@@ -19,12 +19,12 @@ use denote.Enum.Declared.{tagOf}
 use borrow.Author.Tests.{eq-eqb, ne-eqb, eqb-true, eqb-false, le-leb, lt-leb}
 use Rattle.whole.specs.Parts.{part-length}
 use Rattle.whole.specs.Refusal.{Test, _orElse_, answer, after}
-use Rattle.whole.specs.RefusalLaws.{answer-pass, answer-fail, answer-none, answer-first, answer-rest, after-done, after-refused, output-new, output-kept}
+use Rattle.whole.specs.RefusalLaws.{answer-pass, answer-fail, answer-none, answer-first, answer-rest, answer-before, after-done, after-refused, output-new, output-kept}
 use Rattle.sets.specs.declared.Numbers.{Numbers}
 use Rattle.sets.specs.Good.{Good}
 use Rattle.sets.specs.Limits.{messageLimit}
+use Rattle.sets.specs.GoodLaws.{n-few}
 use Rattle.records.specs.Layout.{marked, signatureBytes}
-use Rattle.records.specs.SizeLaws.{n-few}
 use Rattle.envelope.specs.declared.ReadEnvelope.{ReadEnvelope}
 use Rattle.envelope.specs.declared.ReadEnvelope.the-variants.{Parts, Length, Mark, Message, Z}
 use Rattle.envelope.specs.Answers.{readEnvelopeNumber, readEnvelopeTeam, readEnvelopeLength}
@@ -108,16 +108,6 @@ module _ (team len : ℕ) {n : ℕ} where
   parts-refused m e = (sym e, (sym (after-refused m team 0 e), sym (after-refused m len 0 e)))
 
 -- ---- tests that follow
-
--- a refusal among the first tests is the answer, whatever follows them
-answer-before : (m : ℕ) (xs ys : List Test) → answer xs ≡ suc m → answer (xs ++ ys) ≡ suc m
-unfolding answer
-answer-before m [] ys e = absurd (omega arith)
-answer-before m (x ∷ xs) ys e = go (answer-before m xs ys) (x .passes) e
-  where
-    go : (answer xs ≡ suc m → answer (xs ++ ys) ≡ suc m) → (b : Bool) → cond b (answer xs) (x .number) ≡ suc m → cond b (answer (xs ++ ys)) (x .number) ≡ suc m
-    go rest true h = rest h
-    go rest false h = h
 
 -- what a head's answer says
 abbrev pub HeadSays : Numbers → List ℕ → ReadEnvelope → Type 0

@@ -33,6 +33,21 @@ pub enum WriteEnvelope {
     Z,
 }
 
+impl WriteEnvelope {
+    // Document 01's number.
+    pub fn number(self) -> u8
+        ensures { λ r. ⌜ r ≡ writeEnvelopeNumber self ⌝ }
+    {
+        match self {
+            WriteEnvelope::Done => 0,
+            WriteEnvelope::Length => 1,
+            WriteEnvelope::Mark => 2,
+            WriteEnvelope::Message => 3,
+            WriteEnvelope::Z => 9,
+        }
+    }
+}
+
 // What reading an envelope answers.
 pub enum ReadEnvelope {
     // 0: the team number and the roster's length
@@ -45,6 +60,47 @@ pub enum ReadEnvelope {
     Message,
     // 9: some z is outside −(B − S) to B − S
     Z,
+}
+
+impl ReadEnvelope {
+    // Document 01's number.
+    pub fn number(self) -> u8
+        ensures { λ r. ⌜ r ≡ readEnvelopeNumber self ⌝ }
+    {
+        match self {
+            ReadEnvelope::Parts { team: _, len: _ } => 0,
+            ReadEnvelope::Length => 1,
+            ReadEnvelope::Mark => 2,
+            ReadEnvelope::Message => 3,
+            ReadEnvelope::Z => 9,
+        }
+    }
+
+    // The team number, 0 on refusal.
+    pub fn team(self) -> u16
+        ensures { λ r. ⌜ r ≡ readEnvelopeTeam self ⌝ }
+    {
+        match self {
+            ReadEnvelope::Parts { team, len: _ } => team,
+            ReadEnvelope::Length => 0,
+            ReadEnvelope::Mark => 0,
+            ReadEnvelope::Message => 0,
+            ReadEnvelope::Z => 0,
+        }
+    }
+
+    // The roster's length, 0 on refusal.
+    pub fn len(self) -> usize
+        ensures { λ r. ⌜ r ≡ readEnvelopeLength self ⌝ }
+    {
+        match self {
+            ReadEnvelope::Parts { team: _, len } => len,
+            ReadEnvelope::Length => 0,
+            ReadEnvelope::Mark => 0,
+            ReadEnvelope::Message => 0,
+            ReadEnvelope::Z => 0,
+        }
+    }
 }
 
 // What opening an envelope answers.
@@ -65,6 +121,56 @@ pub enum Opened {
     High,
     // 11: the hash differs
     Hash,
+}
+
+impl Opened {
+    // Document 01's number.
+    pub fn number(self) -> u8
+        ensures { λ r. ⌜ r ≡ openedNumber self ⌝ }
+    {
+        match self {
+            Opened::Roster { team: _, len: _ } => 0,
+            Opened::Length => 1,
+            Opened::Mark => 2,
+            Opened::Message => 3,
+            Opened::Coefficient => 5,
+            Opened::Z => 9,
+            Opened::High => 10,
+            Opened::Hash => 11,
+        }
+    }
+
+    // The team number, 0 on refusal.
+    pub fn team(self) -> u16
+        ensures { λ r. ⌜ r ≡ openedTeam self ⌝ }
+    {
+        match self {
+            Opened::Roster { team, len: _ } => team,
+            Opened::Length => 0,
+            Opened::Mark => 0,
+            Opened::Message => 0,
+            Opened::Coefficient => 0,
+            Opened::Z => 0,
+            Opened::High => 0,
+            Opened::Hash => 0,
+        }
+    }
+
+    // The roster's length, 0 on refusal.
+    pub fn len(self) -> usize
+        ensures { λ r. ⌜ r ≡ openedLength self ⌝ }
+    {
+        match self {
+            Opened::Roster { team: _, len } => len,
+            Opened::Length => 0,
+            Opened::Mark => 0,
+            Opened::Message => 0,
+            Opened::Coefficient => 0,
+            Opened::Z => 0,
+            Opened::High => 0,
+            Opened::Hash => 0,
+        }
+    }
 }
 
 // Writes an envelope, with every test first. scratch takes the bits of z.

@@ -16,6 +16,8 @@ use Rattle.keys.proofs.tests.each_e_passes.Kinds as each-e-kinds
 use Rattle.keys.proofs.tests.each_e_passes.Reads as each-e
 use Rattle.keys.proofs.tests.test_inputs.Kinds as test-inputs-kinds
 use Rattle.keys.proofs.tests.test_inputs.Reads as test-inputs
+use Rattle.keys.proofs.KeyAnswer.number.Kinds as key-answer-number-kinds
+use Rattle.keys.proofs.KeyAnswer.number.Reads as key-answer-number
 
 -- the answer with this number
 abbrev answerWith : ℕ → KeyAnswer
@@ -46,3 +48,8 @@ each-e-determined κs a x y e f p q = p ∙ sym q
 
 pub test-inputs-determined : Result 5 test-inputs-kinds.ps test-inputs-kinds.r test-inputs.Learnt
 test-inputs-determined κs a x y e f p q = number-determines x y (p ∙ sym q)
+
+-- ---- the number of an answer
+
+pub key-answer-number-determined : Result 0 key-answer-number-kinds.ps key-answer-number-kinds.r key-answer-number.Learnt
+key-answer-number-determined κs a x y e f p q = p ∙ sym q

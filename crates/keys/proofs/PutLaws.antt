@@ -3,15 +3,16 @@
 use mathlib.Core.Path.{_≡_, sym, ap, ap₂, _∙_}
 use mathlib.Core.List.{List, _++_, append-nil, append-assoc}
 use Prim.Native.Nat.{ℕ, _+_, _*_, _-_, _≤_, _<_, zero-le}
-use native.Mathlib.Nat.{le-antisymm, mul-zero, mul-comm}
+use native.Mathlib.Nat.{le-antisymm, mul-comm, add-sub-cancel-left}
 use native.Mathlib.Numerals.{add-one}
 use native.Mathlib.Omega.{arith}
 use lib.ListN.{length, take, drop, length-append}
-use lib.Seq.{drop-drop, length-take-le}
+use lib.Seq.{length-take-le}
 use Rattle.whole.specs.Below.{Below, below-take}
 use Rattle.whole.specs.Parts.{part-length}
 use Rattle.whole.specs.Table.{joined, joined-length}
 use Rattle.whole.specs.Written.{Written, written-kept, written-more, written-length}
+use Rattle.whole.specs.Rows.{row-fits}
 use Rattle.packing.specs.Digits.{packed}
 use Rattle.ring.specs.Lists.{length-residues, residues-below}
 use Rattle.sets.specs.declared.Numbers.{Numbers}
@@ -19,10 +20,10 @@ use Rattle.sets.specs.Good.{Good}
 use Rattle.sets.specs.GoodLaws.{q-some}
 use Rattle.sampling.specs.declared.drawn.DrawA.{DrawA}
 use Rattle.sampling.specs.Streams.{allA}
-use Rattle.sampling.specs.DrawALaws.{left-below}
-use Rattle.sampling.specs.DrawA.{valuesLeft, ValidA, StartedA, AfterA}
+use Rattle.sampling.specs.DrawALaws.{left-below, AtA, at-first, at-asks, at-next}
+use Rattle.sampling.specs.DrawA.{valuesLeft, StartedA, AfterA, NextA}
 use Rattle.records.specs.Layout.{polynomial, tBytes}
-use Rattle.records.specs.PublicLaws.{row-fits, packed-t-length}
+use Rattle.records.specs.PublicLaws.{packed-t-length}
 use Rattle.records.specs.PublicPlaces.{PacksT}
 use Rattle.records.specs.Secret.{eOf}
 use Rattle.records.specs.SizeLaws.{stretch-fits}
@@ -53,9 +54,7 @@ pub one-more : {set : Numbers} {d d₁ : DrawA} {a₁ t₁ : List ℕ} (sr e : L
 one-more {set} sr e drawn f =
     record {
       t-is = f ∙ ap (λ l. tFrom set l sr e) (drawn .written);
-      rest = drawn .rest;
-      valid = drawn .valid;
-      need-is = drawn .need-is;
+      drawn = rw (drawn .written) at drawn;
     }
 
 -- ---- t_1..t_k in the record
@@ -63,9 +62,7 @@ one-more {set} sr e drawn f =
 -- i of them are written
 pub record Turn (set : Numbers) (seedA sr e old : List ℕ) (a t public : List ℕ) (d : DrawA) (i : ℕ) : Type 0 where
   pub within : i ≤ set .k
-  pub rest : valuesLeft set d ≡ drop (set .n * i) (allA set seedA)
-  pub valid : ValidA d
-  pub need-is : d .need + set .n * i ≡ set .k * set .n
+  pub at : AtA set seedA i d
   pub a-long : length a ≡ set .n
   pub t-long : length t ≡ set .n
   pub done : Written (take 2 old ++ packedUpto set (allA set seedA) sr e i) old public
@@ -74,9 +71,6 @@ upto-length : (set : Numbers) (a sr e : List ℕ) (i : ℕ) → length (packedUp
 unfolding packedUpto
 upto-length set a sr e i =
     joined-length i (tBytes set) _ (λ j l. packed-t-length set _ (tFrom-length set (polynomial (set .n) j a) sr (eOf set e j))) ∙ mul-comm i (tBytes set)
-
-part-size : (start n : ℕ) → start + n - start ≡ n
-part-size start n = omega arith
 
 pub part-inside : {set : Numbers} {sr e a t public : List ℕ} → ForPut set sr e a t public → (i : ℕ) → i < set .k → set .n * i + set .n ≤ length e
 part-inside {set} asked i l = rw (asked .e-long) (row-fits (set .n) (set .k) i l)
@@ -87,17 +81,15 @@ module _ {set : Numbers} {seedA sr e a₀ t₀ old : List ℕ} (asked : ForPut s
   turn-none started =
       record {
         within = zero-le;
-        rest = started .all ∙ ap (λ m. drop m (allA set seedA)) (sym (mul-zero (set .n)));
-        valid = started .valid;
-        need-is = omega (arith, started .need-is);
+        at = at-first started;
         a-long = asked .a-long;
         t-long = asked .t-long;
         done = rw (append-nil (take 2 old)) (written-kept 2 old (omega (arith, asked .public-long)));
       }
 
   module _ {a t public : List ℕ} {d : DrawA} {i : ℕ} (turn : Turn set seedA sr e old a t public d i) (l : i < set .k) where
-    still-needed : set .n ≤ d .need
-    still-needed = omega (arith, turn .need-is, row-fits (set .n) (set .k) i l)
+    next : NextA set d (length a)
+    next = at-asks (turn .at) (asked .good) l (turn .a-long)
 
     -- a part of e with as many elements as a polynomial
     module _ (start : ℕ) (inside : start + set .n ≤ length e) where
@@ -105,10 +97,10 @@ module _ {set : Numbers} {seedA sr e a₀ t₀ old : List ℕ} (asked : ForPut s
       next-asks =
           record {
             good = asked .good;
-            valid = turn .valid;
-            needed = still-needed;
+            valid = next .valid;
+            needed = next .needed;
             s-is = asked .s-is;
-            e-long = rw (part-size start (set .n)) (part-length start (set .n) e inside);
+            e-long = rw (add-sub-cancel-left start (set .n)) (part-length start (set .n) e inside);
             a-long = turn .a-long;
             t-long = turn .t-long;
           }
@@ -135,9 +127,7 @@ module _ {set : Numbers} {seedA sr e a₀ t₀ old : List ℕ} (asked : ForPut s
         turn-more {public₁ = public₁} start-is kept put =
             record {
               within = omega arith;
-              rest = more .rest ∙ ap (drop (set .n)) (turn .rest) ∙ drop-drop (set .n) (set .n * i) (allA set seedA) ∙ ap (λ m. drop m (allA set seedA)) next;
-              valid = more .valid;
-              need-is = omega (arith, more .need-is, turn .need-is, still-needed);
+              at = at-next (turn .at) l (more .drawn);
               a-long = kept ∙ turn .a-long;
               t-long = t-length;
               done =
@@ -145,13 +135,10 @@ module _ {set : Numbers} {seedA sr e a₀ t₀ old : List ℕ} (asked : ForPut s
                   (written-more (turn .done) (2 + tBytes set * i) (tBytes set) one (sym so-far) one-long (stretch-fits set old i (asked .public-long) l) placed);
             }
           where
-            next : set .n * i + set .n ≡ set .n * (i + 1)
-            next = omega arith
-
             t-is : t₁ ≡ tFrom set (polynomial (set .n) i (allA set seedA)) sr (eOf set e i)
             t-is =
                 more .t-is
-                ∙ ap₂ (λ x m. tFrom set (take (set .n) x) sr (take m (drop start e))) (turn .rest) (part-size start (set .n))
+                ∙ ap₂ (λ x m. tFrom set (take (set .n) x) sr (take m (drop start e))) (turn .at .left-is) (add-sub-cancel-left start (set .n))
                 ∙ ap (λ m. tFrom set (polynomial (set .n) i (allA set seedA)) sr (take (set .n) (drop m e))) start-is
 
             made : List ℕ

@@ -5,13 +5,14 @@ use mathlib.Core.List.{List, _++_, append-assoc}
 use Prim.Native.Nat.{ℕ, _+_, _*_, _-_, _≤_}
 use native.Mathlib.Omega.{arith}
 use lib.ListN.{length, take, drop, length-append}
-use Rattle.whole.specs.Table.{joined-ext, joined-length, joined-part}
+use Rattle.whole.specs.Table.{joined-ext, joined-part}
 use Rattle.whole.specs.Written.{Written, written-more, written-length, written-front, written-all}
 use Rattle.packing.specs.Digits.{packed}
 use Rattle.ring.specs.Asks.{Bytes}
 use Rattle.ring.specs.Lists.{signedBytes, residues, length-residues, residues-below}
 use Rattle.sets.specs.declared.Numbers.{Numbers}
 use Rattle.sets.specs.Good.{Good}
+use Rattle.sets.specs.GoodLaws.{q-some}
 use Rattle.sampling.specs.Streams.{allA, aOf, keyDigest}
 use Rattle.records.specs.Layout.{mark, stretch, digestBytes, tBytes}
 use Rattle.records.specs.Public.{packedT, publicRecord}
@@ -22,17 +23,10 @@ use Rattle.records.specs.SecretPlaces.{PutsSecret}
 use Rattle.keys.specs.Asks.{ForPut, ForPublic, ForSecret, ForBoth}
 use Rattle.keys.specs.Key.{keyT, allKeyT, publicOf, secretOf}
 use Rattle.keys.specs.Steps.{packedUpto}
+use Rattle.keys.specs.KeyLaws.{keyT-length, allKeyT-length}
 use Rattle.keys.proofs.StepLaws.{tFrom-keyT}
 
 -- ---- t_1..t_k
-
-keyT-length : (set : Numbers) (s e seedA : List ℕ) (i : ℕ) → length (keyT set s e seedA i) ≡ set .n
-unfolding keyT
-keyT-length set s e seedA i = length-residues (set .q) (set .n) _
-
-allKeyT-length : (set : Numbers) (s e seedA : List ℕ) → length (allKeyT set s e seedA) ≡ set .k * set .n
-unfolding allKeyT
-allKeyT-length set s e seedA = joined-length (set .k) (set .n) (keyT set s e seedA) (λ i l. keyT-length set s e seedA i)
 
 -- s modulo q
 abbrev pub residuesOf : Numbers → List ℕ → List ℕ
@@ -75,7 +69,7 @@ module _ {set : Numbers} {s e seedA old sr a t : List ℕ} (asked : ForPublic se
           s-is =
               record {
                 long = ap length residues-are ∙ length-residues (set .q) (set .n) _;
-                below = rw residues-are (residues-below (set .q) (set .n) _ (omega (arith, asked .writes .good .q-large)));
+                below = rw residues-are (residues-below (set .q) (set .n) _ (q-some (asked .writes .good)));
               };
           e-long = asked .e-long;
           a-long = asked .places .a-long;

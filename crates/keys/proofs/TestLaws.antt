@@ -9,10 +9,10 @@ use native.Mathlib.Nat.{le-antisymm}
 use lib.ListN.{length, take, drop}
 use Rattle.whole.specs.Refusal.{eachBelow}
 use Rattle.whole.specs.RefusalLaws.{eachBelow-fails}
+use Rattle.whole.specs.Rows.{row-fits}
 use Rattle.ring.specs.Largest.{sumPasses, Few}
 use Rattle.sets.specs.declared.Numbers.{Numbers}
 use Rattle.records.specs.Secret.{eOf}
-use Rattle.records.specs.PublicLaws.{row-fits}
 use Rattle.keys.specs.Key.{eachEPasses}
 use Rattle.keys.specs.Asks.{ForE}
 

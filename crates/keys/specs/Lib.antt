@@ -1,4 +1,5 @@
 pub mod Answers
 pub mod Key
+pub mod KeyLaws
 pub mod Steps
 pub mod Asks

@@ -3,7 +3,7 @@
 use mathlib.Core.Path.{_≡_}
 use mathlib.Core.List.{List}
 use Prim.Native.Nat.{ℕ, _+_, _-_}
-use lib.ListN.{take, drop}
+use lib.ListN.{take}
 use Rattle.whole.specs.Table.{joined}
 use lib.IntN.{_+ℤ_}
 use Rattle.ring.specs.Product.{mul}
@@ -11,7 +11,7 @@ use Rattle.ring.specs.Lists.{naturals, signedBytes, residues}
 use Rattle.packing.specs.Digits.{packed}
 use Rattle.sets.specs.declared.Numbers.{Numbers}
 use Rattle.sampling.specs.declared.drawn.DrawA.{DrawA}
-use Rattle.sampling.specs.DrawA.{valuesLeft, ValidA}
+use Rattle.sampling.specs.DrawA.{valuesLeft, AfterA}
 use Rattle.records.specs.Layout.{polynomial}
 use Rattle.records.specs.Secret.{eOf}
 
@@ -23,9 +23,7 @@ tFrom set a sr e =
 -- one t more: a is the next of the stream
 pub record OneMore (set : Numbers) (before : DrawA) (sr e t : List ℕ) (r : DrawA) : Type 0 where
   pub t-is : t ≡ tFrom set (take (set .n) (valuesLeft set before)) sr e
-  pub rest : valuesLeft set r ≡ drop (set .n) (valuesLeft set before)
-  pub valid : ValidA r
-  pub need-is : r .need ≡ before .need - set .n
+  pub drawn : AfterA set before (take (set .n) (valuesLeft set before)) r
 
 -- t_1..t_m packed, each in its own stretch, where a_1, a_2, .. stand in a row in a
 unfoldable pub packedUpto : Numbers → List ℕ → List ℕ → List ℕ → ℕ → List ℕ

@@ -27,6 +27,21 @@ pub enum KeyAnswer {
     SumE,
 }
 
+impl KeyAnswer {
+    // Document 01's number.
+    pub fn number(self) -> u8
+        ensures { λ r. ⌜ r ≡ keyAnswerNumber self ⌝ }
+    {
+        match self {
+            KeyAnswer::Done => 0,
+            KeyAnswer::Length => 1,
+            KeyAnswer::Secret => 5,
+            KeyAnswer::SumS => 6,
+            KeyAnswer::SumE => 7,
+        }
+    }
+}
+
 // Writes both records of the key. sr takes s modulo q, a and t one a_i and one t_i at a time.
 fn put_both(
     set: Numbers,

@@ -1,24 +1,9 @@
 // Key making.
-use keys::KeyAnswer;
 ghost use mathlib.Core.Path.{_≡_};
 ghost use lib.ListN.{length};
 ghost use Rattle.whole.specs.Refusal.{answer, after};
 ghost use Rattle.sets.specs.SetI.{setI};
-ghost use Rattle.keys.specs.Answers.{keyAnswerNumber};
 ghost use Rattle.keys.specs.Key.{publicOf, secretOf, makeKeyTests};
-
-// Document 01's number of an answer.
-fn number(answered: KeyAnswer) -> u8
-    ensures { λ r. ⌜ r ≡ keyAnswerNumber answered ⌝ }
-{
-    match answered {
-        KeyAnswer::Done => 0,
-        KeyAnswer::Length => 1,
-        KeyAnswer::Secret => 5,
-        KeyAnswer::SumS => 6,
-        KeyAnswer::SumE => 7,
-    }
-}
 
 // Makes the public and the secret record of s, e_1..e_k in a row, seed_a and seed_y. 0, 1, 5, 6, 7.
 #[no_mangle]
@@ -34,5 +19,5 @@ pub extern "C" fn maesikkong_make_key(
     ensures public { λ _. ⌜ now (public .exit) ≡ after (answer (makeKeyTests setI (now (s .entry)) (now (e .entry)) (now («seed_a» .entry)) (now («seed_y» .entry)) (length (now (public .entry))) (length (now (secret .entry))))) (publicOf setI (now (s .entry)) (now (e .entry)) (now («seed_a» .entry))) (now (public .entry)) ⌝ }
     ensures secret { λ _. ⌜ now (secret .exit) ≡ after (answer (makeKeyTests setI (now (s .entry)) (now (e .entry)) (now («seed_a» .entry)) (now («seed_y» .entry)) (length (now (public .entry))) (length (now (secret .entry))))) (secretOf setI (now (s .entry)) (now (e .entry)) (now («seed_a» .entry)) (now («seed_y» .entry))) (now (secret .entry)) ⌝ }
 {
-    number(keys::make_key(s, e, seed_a, seed_y, public, secret))
+    keys::make_key(s, e, seed_a, seed_y, public, secret).number()
 }

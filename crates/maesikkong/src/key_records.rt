@@ -1,24 +1,10 @@
 // The public and the secret record: written from their values and read into them.
-use records::KeyRecord;
 ghost use mathlib.Core.Path.{_≡_};
 ghost use lib.ListN.{length};
 ghost use Rattle.whole.specs.Refusal.{answer, after};
 ghost use Rattle.sets.specs.SetI.{setI};
-ghost use Rattle.records.specs.Answers.{keyRecordNumber};
 ghost use Rattle.records.specs.Public.{publicRecord, allT, seedAOf, readPublicTests, writePublicTests};
 ghost use Rattle.records.specs.Secret.{secretRecord, sOf, allE, secretSeedA, secretSeedY, secretG, readSecretTests, writeSecretTests};
-
-// Document 01's number of an answer.
-fn number(answered: KeyRecord) -> u8
-    ensures { λ r. ⌜ r ≡ keyRecordNumber answered ⌝ }
-{
-    match answered {
-        KeyRecord::Done => 0,
-        KeyRecord::Length => 1,
-        KeyRecord::Mark => 2,
-        KeyRecord::Value => 5,
-    }
-}
 
 // The public record of t, t_1..t_k in a row, and seed_a. 0, 1, 5.
 #[no_mangle]
@@ -26,7 +12,7 @@ pub extern "C" fn maesikkong_write_public(t: &[u32], seed_a: &[u8], public: &mut
     ensures number { λ r. ⌜ r ≡ answer (writePublicTests setI (now (t .entry)) (now («seed_a» .entry)) (length (now (public .entry)))) ⌝ }
     ensures written { λ _. ⌜ now (public .exit) ≡ after (answer (writePublicTests setI (now (t .entry)) (now («seed_a» .entry)) (length (now (public .entry))))) (publicRecord setI (now (t .entry)) (now («seed_a» .entry))) (now (public .entry)) ⌝ }
 {
-    number(records::write_public(t, seed_a, public))
+    records::write_public(t, seed_a, public).number()
 }
 
 // t, t_1..t_k in a row, and seed_a of a public record. 0, 1, 2, 5.
@@ -36,7 +22,7 @@ pub extern "C" fn maesikkong_read_public(public: &[u8], t: &mut [u32], seed_a: &
     ensures values { λ _. ⌜ now (t .exit) ≡ after (answer (readPublicTests setI (now (public .entry)) (length (now (t .entry))) (length (now («seed_a» .entry))))) (allT setI (now (public .entry))) (now (t .entry)) ⌝ }
     ensures seed { λ _. ⌜ now («seed_a» .exit) ≡ after (answer (readPublicTests setI (now (public .entry)) (length (now (t .entry))) (length (now («seed_a» .entry))))) (seedAOf setI (now (public .entry))) (now («seed_a» .entry)) ⌝ }
 {
-    number(records::read_public(public, t, seed_a))
+    records::read_public(public, t, seed_a).number()
 }
 
 // The secret record of s, e_1..e_k in a row, seed_a, seed_y and g. 0, 1, 5.
@@ -52,7 +38,7 @@ pub extern "C" fn maesikkong_write_secret(
     ensures number { λ r. ⌜ r ≡ answer (writeSecretTests setI (now (s .entry)) (now (e .entry)) (now («seed_a» .entry)) (now («seed_y» .entry)) (now (g .entry)) (length (now (secret .entry)))) ⌝ }
     ensures written { λ _. ⌜ now (secret .exit) ≡ after (answer (writeSecretTests setI (now (s .entry)) (now (e .entry)) (now («seed_a» .entry)) (now («seed_y» .entry)) (now (g .entry)) (length (now (secret .entry))))) (secretRecord setI (now (s .entry)) (now (e .entry)) (now («seed_a» .entry)) (now («seed_y» .entry)) (now (g .entry))) (now (secret .entry)) ⌝ }
 {
-    number(records::write_secret(s, e, seed_a, seed_y, g, secret))
+    records::write_secret(s, e, seed_a, seed_y, g, secret).number()
 }
 
 // s, e_1..e_k in a row, seed_a, seed_y and g of a secret record. 0, 1, 2, 5.
@@ -72,5 +58,5 @@ pub extern "C" fn maesikkong_read_secret(
     ensures seed_y { λ _. ⌜ now («seed_y» .exit) ≡ after (answer (readSecretTests setI (now (secret .entry)) (length (now (s .entry))) (length (now (e .entry))) (length (now («seed_a» .entry))) (length (now («seed_y» .entry))) (length (now (g .entry))))) (secretSeedY setI (now (secret .entry))) (now («seed_y» .entry)) ⌝ }
     ensures g { λ _. ⌜ now (g .exit) ≡ after (answer (readSecretTests setI (now (secret .entry)) (length (now (s .entry))) (length (now (e .entry))) (length (now («seed_a» .entry))) (length (now («seed_y» .entry))) (length (now (g .entry))))) (secretG setI (now (secret .entry))) (now (g .entry)) ⌝ }
 {
-    number(records::read_secret(secret, s, e, seed_a, seed_y, g))
+    records::read_secret(secret, s, e, seed_a, seed_y, g).number()
 }

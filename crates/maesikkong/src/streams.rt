@@ -1,23 +1,11 @@
 // The candidate rules over a lent stream, and SHAKE256.
-use sampling::Taken;
 ghost use mathlib.Core.Path.{_≡_};
 ghost use lib.ListN.{length};
 ghost use Rattle.whole.specs.Refusal.{answer, after};
 ghost use Rattle.shake.specs.Shake256.{shake256};
 ghost use Rattle.sets.specs.SetI.{setI};
-ghost use Rattle.sampling.specs.Answers.{takenNumber};
 ghost use Rattle.sampling.specs.Lent.{testsA, lentA, testsY, lentY, testsEnc, lentEnc};
 ghost use Rattle.sampling.specs.Positions.{positionsOf, signsOf};
-
-// Document 01's number of an answer.
-fn number(answered: Taken) -> u8
-    ensures { λ r. ⌜ r ≡ takenNumber answered ⌝ }
-{
-    match answered {
-        Taken::Done => 0,
-        Taken::Length => 1,
-    }
-}
 
 // Values for a, as many as out has places. 0, 1.
 #[no_mangle]
@@ -25,7 +13,7 @@ pub extern "C" fn maesikkong_take_a(stream: &[u8], out: &mut [u32]) -> u8
     ensures number { λ r. ⌜ r ≡ answer (testsA (now (stream .entry)) (length (now (out .entry)))) ⌝ }
     ensures values { λ _. ⌜ now (out .exit) ≡ after (answer (testsA (now (stream .entry)) (length (now (out .entry))))) (lentA setI (now (stream .entry)) (length (now (out .entry)))) (now (out .entry)) ⌝ }
 {
-    number(sampling::take_a(stream, out))
+    sampling::take_a(stream, out).number()
 }
 
 // Values for y, as many as out has places. 0, 1.
@@ -34,7 +22,7 @@ pub extern "C" fn maesikkong_take_y(stream: &[u8], out: &mut [i32]) -> u8
     ensures number { λ r. ⌜ r ≡ answer (testsY (now (stream .entry)) (length (now (out .entry)))) ⌝ }
     ensures values { λ _. ⌜ now (out .exit) ≡ after (answer (testsY (now (stream .entry)) (length (now (out .entry))))) (lentY setI (now (stream .entry)) (length (now (out .entry)))) (now (out .entry)) ⌝ }
 {
-    number(sampling::take_y(stream, out))
+    sampling::take_y(stream, out).number()
 }
 
 // Positions with their signs, as many as there are places for both. 0, 1.
@@ -48,7 +36,7 @@ pub extern "C" fn maesikkong_take_positions(
     ensures positions { λ _. ⌜ now (positions .exit) ≡ after (answer (testsEnc setI (now (stream .entry)) (length (now (positions .entry))) (length (now (signs .entry))))) (positionsOf (lentEnc setI (now (stream .entry)) (length (now (positions .entry))))) (now (positions .entry)) ⌝ }
     ensures signs { λ _. ⌜ now (signs .exit) ≡ after (answer (testsEnc setI (now (stream .entry)) (length (now (positions .entry))) (length (now (signs .entry))))) (signsOf (lentEnc setI (now (stream .entry)) (length (now (positions .entry))))) (now (signs .entry)) ⌝ }
 {
-    number(sampling::take_positions(stream, positions, signs))
+    sampling::take_positions(stream, positions, signs).number()
 }
 
 // SHAKE256 of the message, as many bytes as out has places. 0.

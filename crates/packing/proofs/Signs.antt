@@ -12,10 +12,11 @@ use lib.Signed.{ltZ}
 use borrow.Author.Tests.{ltb-true}
 use mir.Syntax.{w32, w64}
 use mir.Val.{SFits, toZ, ofZ}
-use mir.Facts.{toZ-ofZ, toZ-pos, sfits-widen}
+use mir.Facts.{toZ-ofZ, toZ-pos}
 use Rattle.whole.specs.Int.{int, sum-is}
 use Rattle.whole.specs.Residue.{residue-lt, residue-small}
 use Rattle.whole.specs.Twos.{InBits, signed, twos, halves, signed-low, signed-high, twos-below, signed-range}
+use Rattle.whole.specs.Words.{read-i64}
 
 -- 2^b, as the code makes it
 power : (b : ℕ) → b < 32 → toZ w64 ((1 * 2 ^ b) % 2 ^ 64) ≡ pos (2 ^ b)
@@ -44,9 +45,6 @@ module _ {b : ℕ} {z : ℤ} (p : ((0 < b) × (b < 32)) × InBits b z) where
   same-i32 : toZ w32 (ofZ w32 z) ≡ z
   same-i32 = toZ-ofZ (fits-i32 (p .0 .1) (p .1))
 
-  pub fits-i64 : SFits w64 (toZ w32 (ofZ w32 z))
-  fits-i64 = rw same-i32 (sfits-widen {w = w32} tt (fits-i32 (p .0 .1) (p .1)))
-
   pub twos-fits : twos b z < 2 ^ 32
   twos-fits =
       let m : 2 ^ b ≤ 2 ^ 32 = pow-mono {i = b} {j = 32} (omega arith) in
@@ -55,7 +53,7 @@ module _ {b : ℕ} {z : ℤ} (p : ((0 < b) × (b < 32)) × InBits b z) where
   -- a negative number: 2^b goes on it
   pub raised : ltZ (toZ w32 (ofZ w32 z)) (pos 0) ≡ true
       → toZ w64 ((1 * 2 ^ b) % 2 ^ 64) +ℤ toZ w64 (ofZ w64 (toZ w32 (ofZ w32 z))) ≡ pos (twos b z)
-  raised t = ap₂ _+ℤ_ (power b (p .0 .1)) (toZ-ofZ fits-i64 ∙ same-i32) ∙ go z (p .1) (rw same-i32 at t)
+  raised t = ap₂ _+ℤ_ (power b (p .0 .1)) (read-i64 (fits-i32 (p .0 .1) (p .1))) ∙ go z (p .1) (rw same-i32 at t)
     where
       go : (y : ℤ) → InBits b y → ltZ y (pos 0) ≡ true → pos (2 ^ b) +ℤ y ≡ pos (twos b y)
       go (pos a) s u = absurd (omega (arith, ltb-true a 0 u))

@@ -69,6 +69,8 @@ use Rattle.records.proofs.secret.write.Kinds as secret-write-kinds
 use Rattle.records.proofs.secret.write.Reads as secret-write
 use Rattle.records.proofs.secret.read.Kinds as secret-read-kinds
 use Rattle.records.proofs.secret.read.Reads as secret-read
+use Rattle.records.proofs.KeyRecord.number.Kinds as key-record-number-kinds
+use Rattle.records.proofs.KeyRecord.number.Reads as key-record-number
 
 pub write-public-determined : Result 3 write-public-kinds.ps write-public-kinds.r write-public.Learnt
 write-public-determined κs a x y e f p q = number-determines x y (p .0 ∙ sym (q .0))
@@ -219,3 +221,8 @@ secret-read-seed-y-determined κs a x y e f p q = p .1 .1 .1 .1 .0 ∙ sym (q .1
 
 pub secret-read-g-determined : Output 6 secret-read-kinds.ps secret-read-kinds.r secret-read.Learnt (λ κs e. now (e .1 .1 .1 .1 .1 .1 .0))
 secret-read-g-determined κs a x y e f p q = p .1 .1 .1 .1 .1 ∙ sym (q .1 .1 .1 .1 .1)
+
+-- ---- the number of an answer
+
+pub key-record-number-determined : Result 0 key-record-number-kinds.ps key-record-number-kinds.r key-record-number.Learnt
+key-record-number-determined κs a x y e f p q = p ∙ sym q

@@ -18,6 +18,8 @@ use Rattle.records.proofs.signature.write_signature.Kinds as write-sign
 use Rattle.records.proofs.signature.write_signature.Reads as write-signature
 use Rattle.records.proofs.signature.read_signature.Kinds as read-signature-kinds
 use Rattle.records.proofs.signature.read_signature.Reads as read-signature
+use Rattle.records.proofs.signature.SignatureRecord.number.Kinds as signature-record-number-kinds
+use Rattle.records.proofs.signature.SignatureRecord.number.Reads as signature-record-number
 
 pub signature-bytes-determined : Result 0 signature-bytes-kinds.ps signature-bytes-kinds.r signature-bytes.Learnt
 signature-bytes-determined κs a x y e f p q = p ∙ sym q
@@ -59,3 +61,8 @@ read-signature-z κs a x y e f p q = p .1 .0 ∙ sym (q .1 .0)
 
 pub read-signature-c : Output 3 read-signature-kinds.ps read-signature-kinds.r read-signature.Learnt (λ κs e. now (e .1 .1 .0))
 read-signature-c κs a x y e f p q = p .1 .1 ∙ sym (q .1 .1)
+
+-- ---- the number of an answer
+
+pub signature-record-number-determined : Result 0 signature-record-number-kinds.ps signature-record-number-kinds.r signature-record-number.Learnt
+signature-record-number-determined κs a x y e f p q = p ∙ sym q

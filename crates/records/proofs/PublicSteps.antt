@@ -14,16 +14,18 @@ use Rattle.whole.specs.RefusalLaws.{Passing, passing-more, passing-fails, passi
 use Rattle.whole.specs.Written.{lent-rest, put-rest, Written, written-none, written-kept, written-length, written-more, written-all, put-part, written-front}
 use Rattle.packing.specs.Digits.{bytesFor, packed, unpacked, Packs, Unpacks}
 use Rattle.sets.specs.declared.Numbers.{Numbers}
+use Rattle.sets.specs.GoodLaws.{n-few, row-inside}
 use Rattle.records.specs.Layout.{tBytes, publicBytes, polynomial, mark, seedBytes}
 use Rattle.records.specs.PublicPlaces.{ReadsT, PacksT, ScansT, ReadsAllT, PacksAllT, TestsPublic, PutsPublic, TakesPublic}
 use Rattle.records.specs.Public.{tOf, allT, tInRange, packedT, publicRecord, seedAOf, readPublicTests}
-use Rattle.records.specs.SizeLaws.{n-few, stretch-fits, row-few}
-use native.Mathlib.Nat.{le-antisymm, mul-comm}
+use Rattle.records.specs.SizeLaws.{stretch-fits}
+use native.Mathlib.Nat.{le-antisymm, mul-comm, add-sub-cancel-left}
 use Rattle.whole.specs.Refusal.{answer, eachBelow}
 use native.Mathlib.Numerals.{add-one}
 use lib.Seq.{length-take-le}
 use Rattle.whole.specs.Table.{joined, joined-length}
-use Rattle.records.specs.PublicLaws.{row-fits, tOf-length, polynomial-length, polynomial-below, packed-t-length, packedT-length, tInRange-below}
+use Rattle.whole.specs.Rows.{row-fits}
+use Rattle.records.specs.PublicLaws.{tOf-length, polynomial-length, polynomial-below, packed-t-length, packedT-length, tInRange-below}
 use Rattle.records.specs.Pieces.{Writes}
 
 -- ---- one t_i is read
@@ -136,10 +138,6 @@ module _ {s : Numbers} {public scratch : List ℕ} {i : ℕ} (p : Ranging s publ
 
 -- ---- t_1..t_k are read
 
--- a part that is n elements from n · i on
-part-size : (n i : ℕ) → n * i + n - n * i ≡ n
-part-size n i = omega arith
-
 -- t_1..t_i stand in t
 pub record ReadingT (s : Numbers) (public old t : List ℕ) (i : ℕ) : Type 0 where
   pub near : i ≤ s .k
@@ -157,7 +155,7 @@ module _ {s : Numbers} {public old t : List ℕ} {i : ℕ} (r : ReadsAllT s publ
   reading-fits l = omega (arith, row-fits (s .n) (s .k) i l, reading-length, r .room)
 
   pub reading-few : i < s .k → s .n * i + s .n ≤ 16711680
-  reading-few l = omega (arith, row-fits (s .n) (s .k) i l, row-few (r .good))
+  reading-few l = row-inside (r .good) l
 
   pub reading-reads : i < s .k → ReadsT s public i (take (s .n * i + s .n - s .n * i) (drop (s .n * i) t))
   reading-reads l =
@@ -165,7 +163,7 @@ module _ {s : Numbers} {public old t : List ℕ} {i : ℕ} (r : ReadsAllT s publ
         good = r .good;
         long = r .long;
         inside = l;
-        room = rw (part-size (s .n) i) (part-length (s .n * i) (s .n) t (reading-fits l));
+        room = rw (add-sub-cancel-left (s .n * i) (s .n)) (part-length (s .n * i) (s .n) t (reading-fits l));
       }
 
   so-far : length (joined i (tOf s public)) ≡ i * s .n
@@ -181,7 +179,7 @@ module _ {s : Numbers} {public old t : List ℕ} {i : ℕ} (r : ReadsAllT s publ
         done =
             written-more (p .done) (s .n * i) (s .n) (tOf s public i) (mul-comm (s .n) i ∙ sym so-far) (tOf-length s public i)
             (omega (arith, reading-fits l, reading-length))
-            (rw (e, part-size (s .n) i) (put-part (s .n * i) (s .n) t (tOf s public i)));
+            (rw (e, add-sub-cancel-left (s .n * i) (s .n)) (put-part (s .n * i) (s .n) t (tOf s public i)));
       })
 
   pub reading-all : s .k ≤ i → t ≡ allT s public
@@ -218,7 +216,7 @@ module _ {s : Numbers} {t old public : List ℕ} {i : ℕ} (r : PacksAllT s t ol
 
   pub writing-packs : i < s .k → PacksT s (take (s .n * i + s .n - s .n * i) (drop (s .n * i) t)) i public
   writing-packs l =
-      rw (part-size (s .n) i)
+      rw (add-sub-cancel-left (s .n * i) (s .n))
       (record {
         good = r .good;
         polynomial = polynomial-length (s .n) (s .k) i t (r .polynomials) l;
@@ -249,7 +247,7 @@ module _ {s : Numbers} {t old public : List ℕ} {i : ℕ} (r : PacksAllT s t ol
         done =
             rw (← append-assoc (take 2 old) (joined i (packedOf s t)) (packedOf s t i))
             (written-more (p .done) (2 + tBytes s * i) (tBytes s) (packedOf s t i) (sym so-far-written) (piece-size i l)
-            (stretch-fits s old i (r .long) l) (rw (part-size (s .n) i) at e));
+            (stretch-fits s old i (r .long) l) (rw (add-sub-cancel-left (s .n * i) (s .n)) at e));
       })
 
   pub writing-all : s .k ≤ i → public ≡ take 2 old ++ (packedT s t ++ drop (2 + s .k * tBytes s) old)

@@ -17,7 +17,7 @@ use Rattle.sets.specs.Good.{Good}
 use Rattle.records.specs.Layout.{mark, seedBytes, digestBytes, secretBytes}
 use Rattle.records.specs.Pieces.{Writes}
 use Rattle.records.specs.Secret.{secretRecord, sOf, allE, secretSeedA, secretSeedY, secretG, inByteRange, readSecretTests}
-use Rattle.records.specs.SecretPlaces.{SecretLengths, PutsSecret, PutsTail, TestsValues, TakesValues, TakesTail, TakesSecret}
+use Rattle.records.specs.SecretPlaces.{SecretLengths, PutsSecret, PutsTail, TakesValues, TakesTail, TakesSecret}
 
 -- ---- the range of secret bytes
 

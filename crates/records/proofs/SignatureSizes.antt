@@ -15,17 +15,18 @@ use lib.Signed.{ltZ}
 use borrow.Author.Tests.{ltb-true, le-leb, lt-leb}
 use mir.Syntax.{w32, w64}
 use mir.Val.{Fits, SFits, toZ, ofZ}
-use mir.Facts.{toZ-ofZ, sfits-widen, fits-natAbs}
+use mir.Facts.{toZ-ofZ, fits-natAbs}
 use Rattle.whole.specs.Int.{abs-is, minus-is, one-part}
 use Rattle.whole.specs.Refusal.{every}
 use Rattle.whole.specs.RefusalLaws.{Passing, passing-none, passing-more, passing-fails, passing-all}
 use Rattle.whole.specs.Twos.{signed, signed-low, signed-high}
+use Rattle.whole.specs.Words.{read-i64}
 use Rattle.rounding.specs.Tests.{zPasses}
 use Rattle.sets.specs.declared.Numbers.{Numbers}
 use Rattle.sets.specs.Good.{Good}
+use Rattle.sets.specs.GoodLaws.{n-few}
 use Rattle.records.specs.Layout.{zBytes}
 use Rattle.records.specs.Signature.{zInRange}
-use Rattle.records.specs.SizeLaws.{n-few}
 
 -- ---- lengths
 
@@ -43,15 +44,12 @@ module _ {z : ℤ} (f : SFits w32 z) where
   pub z-read : toZ w32 (ofZ w32 z) ≡ z
   z-read = toZ-ofZ f
 
-  pub z-wide : SFits w64 (toZ w32 (ofZ w32 z))
-  z-wide = rw z-read (sfits-widen {w = w32} tt f)
-
   pub size-fits : Fits w32 (natAbs z)
   size-fits = fits-natAbs {w = w32} {w′ = w32} tt f
 
   -- 0 − z of a negative z
   pub size-below : {d : ℤ} → ltZ (toZ w32 (ofZ w32 z)) (pos 0) ≡ true → d ≡ pos 0 -ℤ toZ w64 (ofZ w64 (toZ w32 (ofZ w32 z))) → d ≡ pos (natAbs z)
-  size-below t e = e ∙ rw (toZ-ofZ z-wide, z-read) (go z (rw z-read at t))
+  size-below t e = e ∙ rw (read-i64 f) (go z (rw z-read at t))
     where
       go : (y : ℤ) → ltZ y (pos 0) ≡ true → pos 0 -ℤ y ≡ pos (natAbs y)
       go (pos a) u = absurd (omega (arith, ltb-true a 0 u))

@@ -20,8 +20,8 @@ use Rattle.packing.specs.Digits.{bytesFor, packed, unpacked, Packs, Unpacks}
 use Rattle.packing.specs.Laws.{packed-length, unpacked-length, unpacked-below}
 use Rattle.packing.specs.Twos.{ToBits, FromBits, twos-all-below}
 use Rattle.sets.specs.declared.Numbers.{Numbers}
+use Rattle.sets.specs.GoodLaws.{n-few}
 use Rattle.records.specs.Layout.{mark, marked, stretch, zBytes, signatureBytes}
-use Rattle.records.specs.SizeLaws.{n-few}
 use Rattle.records.specs.Signature.{signatureRecord, zOf, challengeOf, zInRange}
 use Rattle.records.specs.SignatureLaws.{zInRange-inside}
 use Rattle.records.specs.SignatureParts.{Signs, ReadsBits, Takes, WritesPieces, WritesChecked, zBitsOf, frontTests, signatureTests}

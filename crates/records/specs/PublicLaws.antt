@@ -5,7 +5,6 @@ use mathlib.Core.Path.{_≡_, refl, sym, ap, ap₂, _∙_}
 use mathlib.Core.Bool.{true}
 use mathlib.Core.List.{List, [], _∷_, _++_}
 use Prim.Native.Nat.{ℕ, _+_, _*_, _≤_, _<_}
-use native.Mathlib.Nat.{mul-comm, mul-le-mul-left, mul-suc}
 use native.Mathlib.Omega.{arith}
 use lib.Dec.{eqb, ltb}
 use lib.ListN.{length, getD, take, drop, length-append}
@@ -16,6 +15,7 @@ use Rattle.whole.specs.Parts.{part-length, part-piece, part-last, part-part, pa
 use Rattle.whole.specs.Table.{joined-ext, joined-length, joined-part, joined-parts}
 use Rattle.whole.specs.Refusal.{answer}
 use Rattle.whole.specs.RefusalLaws.{both, both-first, both-second, answer-pass, answer-none, answer-first, answer-rest, every-at, every-all}
+use Rattle.whole.specs.Rows.{row-fits}
 use Rattle.packing.specs.Digits.{bytesFor, packed, unpacked}
 use Rattle.packing.specs.Laws.{packed-length, unpacked-length, unpacked-packed, packed-unpacked-whole}
 use Rattle.sets.specs.declared.Numbers.{Numbers}
@@ -41,10 +41,6 @@ marked-front s j (x ∷ y ∷ bytes) h e =
     (sym (eqb-true y (16 * s .digit + j) (both-second (eqb x 0x51) (eqb y (16 * s .digit + j)) e)))
 
 -- ---- polynomials in a row
-
--- polynomial i ends inside k of them
-pub row-fits : (n k i : ℕ) → i < k → n * i + n ≤ k * n
-row-fits n k i h = omega (arith, mul-le-mul-left n h, mul-suc n i, mul-comm k n)
 
 pub polynomial-length : {A : Type 0} (n k i : ℕ) (xs : List A) → length xs ≡ k * n → i < k → length (polynomial n i xs) ≡ n
 polynomial-length n k i xs e h = part-length (n * i) n xs (omega (arith, row-fits n k i h))

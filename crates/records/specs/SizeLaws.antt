@@ -6,30 +6,21 @@ use Prim.Native.Nat.{ℕ, _+_, _*_, _≤_, _<_}
 use native.Mathlib.Nat.{mul-le-mul, mul-le-mul-left, mul-comm}
 use native.Mathlib.Omega.{arith}
 use lib.ListN.{length}
-use lib.Pow.{pow-pos, pow-mono}
+use Rattle.whole.specs.Rows.{row-fits}
 use Rattle.sets.specs.declared.Numbers.{Numbers}
 use Rattle.sets.specs.Good.{Good}
+use Rattle.sets.specs.GoodLaws.{n-few}
 use Rattle.records.specs.Layout.{tBytes, publicBytes}
-use Rattle.records.specs.PublicLaws.{row-fits}
 
 module _ {s : Numbers} (good : Good s) where
-  pub n-some : 0 < s .n
-  n-some = rw (good .n-power) (pow-pos (s .«position_bits»))
-
-  pub n-few : s .n ≤ 65536
-  n-few = rw (good .n-power) (pow-mono (good .position-fits))
-
   pub t-bits-few : s .«t_bits» * s .n ≤ 2097152
-  t-bits-few = mul-le-mul (good .t-word) n-few
+  t-bits-few = mul-le-mul (good .t-word) (n-few good)
 
   pub tBytes-few : tBytes s ≤ 262144
   tBytes-few = omega (arith, t-bits-few)
 
   pub packed-few : s .k * tBytes s ≤ 66846720
   packed-few = mul-le-mul (good .k-few) tBytes-few
-
-  pub row-few : s .k * s .n ≤ 16711680
-  row-few = mul-le-mul (good .k-few) n-few
 
   -- t_(i + 1) starts before all packed t end
   pub start-few : (i : ℕ) → i ≤ s .k → tBytes s * i ≤ 66846720

@@ -25,6 +25,20 @@ pub enum KeyRecord {
     Value,
 }
 
+impl KeyRecord {
+    // Document 01's number.
+    pub fn number(self) -> u8
+        ensures { λ r. ⌜ r ≡ keyRecordNumber self ⌝ }
+    {
+        match self {
+            KeyRecord::Done => 0,
+            KeyRecord::Length => 1,
+            KeyRecord::Mark => 2,
+            KeyRecord::Value => 5,
+        }
+    }
+}
+
 // Seeds are 32 bytes, digests 40.
 pub const SEED_BYTES: usize = 32;
 

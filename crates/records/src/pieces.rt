@@ -1,7 +1,7 @@
 // What the records are made of: marks, and bytes that are copied into their place.
 ghost use mathlib.Core.Path.{_≡_};
 ghost use mathlib.Core.List.{_++_};
-ghost use Prim.Native.Nat.{_+_, _≤_};
+ghost use Prim.Native.Nat.{_+_};
 ghost use lib.ListN.{length, getD, take, drop};
 ghost use Rattle.records.specs.Layout.{mark, marked, stretch};
 ghost use Rattle.records.specs.Pieces.{Copies, CopiesAt, CopiesOut, Marks};

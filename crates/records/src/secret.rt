@@ -16,7 +16,7 @@ ghost use Rattle.records.specs.Answers.{keyRecordNumber};
 ghost use Rattle.records.specs.Layout.{seedBytes, digestBytes, secretBytes};
 ghost use Rattle.records.specs.Pieces.{Writes};
 ghost use Rattle.records.specs.Secret.{secretRecord, sOf, allE, secretSeedA, secretSeedY, secretG, inByteRange, secretTests, readSecretTests, writeSecretTests};
-ghost use Rattle.records.specs.SecretPlaces.{PutsSecret, PutsTail, TestsValues, TakesValues, TakesTail, TakesSecret};
+ghost use Rattle.records.specs.SecretPlaces.{PutsSecret, PutsTail, TestsValues, TakesValues, TakesTail};
 
 // Where e_1 starts: after the mark and s.
 pub fn e_start(set: Numbers) -> usize

@@ -32,6 +32,20 @@ pub enum SignatureRecord {
     Value,
 }
 
+impl SignatureRecord {
+    // Document 01's number.
+    pub fn number(self) -> u8
+        ensures { λ r. ⌜ r ≡ signatureRecordNumber self ⌝ }
+    {
+        match self {
+            SignatureRecord::Done => 0,
+            SignatureRecord::Length => 1,
+            SignatureRecord::Mark => 2,
+            SignatureRecord::Value => 9,
+        }
+    }
+}
+
 // The bytes of packed z.
 fn z_bytes(set: Numbers) -> usize
     requires { ⌜ Good set ⌝ }

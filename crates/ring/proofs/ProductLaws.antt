@@ -8,7 +8,7 @@ use native.Mathlib.Omega.{arith}
 use lib.ListN.{length, getD, take, drop, length-take, length-drop}
 use lib.Seq.{take-all, length-take-le, getD-take, getD-drop}
 use lib.IntN.{ℤ, pos, _+ℤ_, _-ℤ_, _*ℤ_}
-use Rattle.whole.specs.Int.{up, int, sum-is, minus-is, *ℤ-assoc}
+use Rattle.whole.specs.Int.{int, sum-is, minus-is, *ℤ-assoc}
 use Rattle.whole.specs.Residue.{residue, residue-is, residue-eq-same, Same, same-refl, same-sym, same-trans, same-minus}
 use Rattle.whole.specs.Sum.{sum, sum-total, total, total-ext}
 use Rattle.whole.specs.Below.{Below, below-more}

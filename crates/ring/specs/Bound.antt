@@ -8,7 +8,7 @@ use Prim.Native.Nat.{ℕ, zero, suc, _+_, _*_, _-_, _≤_, _<_}
 use native.Mathlib.Omega.{arith}
 use lib.ListN.{length, getD, length-map, List·getD-map}
 use lib.IntN.{natAbs, _*ℤ_}
-use Rattle.whole.specs.Int.{lt-or-le, abs-neg, abs-product}
+use Rattle.whole.specs.Int.{lt-or-le, abs-neg, abs-product, less-one}
 use Rattle.whole.specs.Sum.{total, sum-abs, total-ext, total-split, total-reverse}
 use Rattle.whole.specs.Table.{table, length-table, getD-table}
 use Rattle.whole.specs.Twos.{signed}
@@ -35,9 +35,6 @@ total-none f = refl
 chosen : (h x y : ℕ) (xs : List ℕ) → 0 < h → y ≤ largest (h - 1) xs → x + y ≤ largest h (x ∷ xs)
 chosen zero x y xs l m = absurd (omega arith)
 chosen (suc h) x y xs l m = omega (arith, largest-take h x xs, rw (less-one h) at m)
-  where
-    less-one : (k : ℕ) → suc k - 1 ≡ k
-    less-one k = omega arith
 
 pub weighted : (xs : List ℕ) (h : ℕ) (w : ℕ → ℕ) → ((i : ℕ) → i < length xs → w i ≤ 1) → total (length xs) w ≤ h → total (length xs) (λ i. getD xs i 0 * w i) ≤ largest h xs
 weighted [] h w one few = omega (arith, total-none (λ i. 0 * w i))

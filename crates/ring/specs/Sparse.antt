@@ -47,11 +47,11 @@ pub record Signed (n : ℕ) (ps : List ℕ) (ss : List ℤ) : Type 0 where
 
 -- ---- the product by a sparse polynomial is the sum of the turns
 
-term-at : (p : ℕ) (s : ℤ) → term p s p ≡ s
+pub term-at : (p : ℕ) (s : ℤ) → term p s p ≡ s
 unfolding term
 term-at p s = rw (eq-eqb p p refl)
 
-term-off : (p : ℕ) (s : ℤ) (k : ℕ) → (p ≡ k → ⊥) → term p s k ≡ pos 0
+pub term-off : (p : ℕ) (s : ℤ) (k : ℕ) → (p ≡ k → ⊥) → term p s k ≡ pos 0
 unfolding term
 term-off p s k h = rw (ne-eqb p k h)
 

@@ -2,13 +2,13 @@
 -- longer input (`held-decides`): the front of it that is longer than a public record and any envelope is answered as the whole is.
 -- Assumes nothing.
 use mathlib.Core.Path.{_≡_, refl, sym, ap, ap₂, _∙_}
-use mathlib.Core.Bool.{Bool, true, false, cond, _&&_}
+use mathlib.Core.Bool.{Bool, true, false, cond}
 use mathlib.Core.Logic.{⊎-elim}
-use mathlib.Core.List.{List, [], _∷_, _++_}
+use mathlib.Core.List.{List, _∷_}
 use Prim.Native.Nat.{ℕ, _+_, _-_, _≤_, _<_}
 use native.Mathlib.Omega.{arith}
 use lib.Dec.{eqb, leb}
-use lib.ListN.{length, getD, take, drop, length-take, length-drop}
+use lib.ListN.{length, take, drop, length-take, length-drop}
 use lib.Seq.{getD-take, take-take, take-all, take-add, drop-at, length-take-le}
 use borrow.Author.Tests.{le-leb, leb-true, ne-eqb}
 use Rattle.whole.specs.Int.{lt-or-le}
@@ -17,7 +17,7 @@ use Rattle.whole.specs.RefusalLaws.{answer-pass}
 use Rattle.sets.specs.declared.Numbers.{Numbers}
 use Rattle.sets.specs.Limits.{messageLimit}
 use Rattle.sets.specs.SetI.{setI}
-use Rattle.records.specs.Layout.{marked, publicBytes, signatureBytes}
+use Rattle.records.specs.Layout.{marked, publicBytes}
 use Rattle.envelope.specs.Envelope.{headBytes, envelopeBytes, lengthOf, headTests, openTests}
 
 unfoldable pub programTests : List ℕ → List Test

@@ -22,9 +22,9 @@ fn open_input(input: &[u8]) -> Opened
 }
 
 // Writes the line of a refusal.
-fn print_refused(number: u64) {
+fn print_refused(number: u8) {
     io::write_all(1, b"REFUSED ");
-    io::print_decimal(1, number);
+    io::print_decimal(1, number as u64);
     io::write_all(1, b"\n");
 }
 
@@ -39,15 +39,11 @@ fn print_roster(team: u16, len: usize) {
 
 // Writes the line of an answer.
 fn print_answer(opened: Opened) {
-    match opened {
-        Opened::Roster { team, len } => print_roster(team, len),
-        Opened::Length => print_refused(1),
-        Opened::Mark => print_refused(2),
-        Opened::Message => print_refused(3),
-        Opened::Coefficient => print_refused(5),
-        Opened::Z => print_refused(9),
-        Opened::High => print_refused(10),
-        Opened::Hash => print_refused(11),
+    let number = opened.number();
+    if number == 0 {
+        print_roster(opened.team(), opened.len());
+    } else {
+        print_refused(number);
     }
 }
 

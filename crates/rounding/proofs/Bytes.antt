@@ -9,10 +9,11 @@ use lib.IntN.{ℤ, pos, negsuc, _+ℤ_}
 use lib.Signed.{ltZ}
 use mir.Syntax.{w32, w64}
 use mir.Val.{SFits, toZ, ofZ}
-use mir.Facts.{toZ-ofZ, sfits-widen}
+use mir.Facts.{toZ-ofZ}
 use Rattle.whole.specs.Int.{int, sum-is}
 use Rattle.whole.specs.Residue.{residue}
 use Rattle.whole.specs.Twos.{twos}
+use Rattle.whole.specs.Words.{read-i64}
 use Rattle.rounding.specs.Tests.{fitsByte}
 
 -- z + 2^31
@@ -21,12 +22,9 @@ raised (pos a) = a + 2147483648
 raised (negsuc a) = 2147483648 - suc a
 
 module _ {z : ℤ} (f : SFits w32 z) where
-  pub fits-i64 : SFits w64 (toZ w32 (ofZ w32 z))
-  fits-i64 = rw (toZ-ofZ f) (sfits-widen {w = w32} tt f)
-
   pub raised-is : toZ w64 (ofZ w64 (toZ w32 (ofZ w32 z))) +ℤ pos 2147483648 ≡ pos (raised z)
   unfolding raised
-  raised-is = ap (λ (x : ℤ). x +ℤ pos 2147483648) (toZ-ofZ fits-i64 ∙ toZ-ofZ f) ∙ go z f
+  raised-is = ap (λ (x : ℤ). x +ℤ pos 2147483648) (read-i64 f) ∙ go z f
     where
       go : (y : ℤ) → SFits w32 y → y +ℤ pos 2147483648 ≡ pos (raised y)
       go (pos a) s = refl

@@ -2,7 +2,7 @@
 use mathlib.Core.Path.{_≡_, refl, sym, ap, subst, _∙_}
 use mathlib.Core.Logic.{_⊎_, inl, inr, ⊎-elim}
 use Prim.Native.Nat.{ℕ, zero, suc, _+_, _*_, _-_, _/_, _%_, _^_, _≤_, _<_}
-use native.Mathlib.Nat.{mod-lt, div-add-mod, pow-succ', mul-one}
+use native.Mathlib.Nat.{mod-lt, div-add-mod, mul-one}
 use native.Mathlib.Omega.{arith}
 use lib.Pow.{pow-pos, pow-lt}
 use lib.Bits.{bitAnd, and-mask}
@@ -11,6 +11,7 @@ use lib.Signed.{mag}
 use borrow.Author.Tests.{le-leb, lt-leb}
 use Rattle.whole.specs.Int.{up, down, int, sum-is, minus-is, up-neg, down-neg, abs-is, abs-neg, one-part, lt-or-le, *ℤ-neg}
 use Rattle.whole.specs.Residue.{residue, Same, same-refl, same-neg, same-trans}
+use Rattle.whole.specs.Twos.{halves}
 use Rattle.rounding.specs.Centred.{centred, Central, centred-central, centred-same, centred-is, centred-self, central-abs}
 use Rattle.rounding.specs.Parts.{low, high, high-is, low-central}
 
@@ -36,13 +37,6 @@ centred-high q v l h = centred-is q (pos v) (negℤ (pos (q - v))) central below
     below = record { times = pos 1; is = omega (int, up-neg (pos (q - v)), down-neg (pos (q - v)), sum-is m (pos (q * 1)), mul-one q) }
 
 -- ---- steps of m = 2 · half
-
-pub halves : (d : ℕ) → 0 < d → 2 ^ d ≡ 2 * 2 ^ (d - 1)
-halves zero h = absurd (omega arith)
-halves (suc d) h = pow-succ' 2 d ∙ ap (λ (k : ℕ). 2 * 2 ^ k) less-one
-  where
-    less-one : d ≡ suc d - 1
-    less-one = omega arith
 
 pub half-small : (d : ℕ) → 0 < d → d < 31 → (0 < 2 ^ (d - 1)) × (2 ^ (d - 1) < 2 ^ 30)
 half-small d h k = (pow-pos (d - 1), pow-lt {i = d - 1} {j = 30} (omega arith))

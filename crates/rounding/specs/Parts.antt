@@ -9,7 +9,7 @@ use lib.Dec.{lit<}
 use lib.Pow.{pow-pos}
 use lib.IntN.{ℤ, pos, negsuc, negℤ, natAbs, _+ℤ_, _-ℤ_, _*ℤ_}
 use lib.Signed.{quotZ}
-use Rattle.whole.specs.Int.{up, down, int, sum-is, minus-is, up-neg, down-neg, abs-is, abs-product, abs-sum, one-part}
+use Rattle.whole.specs.Int.{up, down, int, sum-is, minus-is, up-neg, down-neg, abs-is, abs-product, abs-sum, one-part, less-one}
 use Rattle.whole.specs.Residue.{Same, same-more}
 use Rattle.rounding.specs.Centred.{centred, Central, centred-central, centred-same, centred-is, centred-self, centred-eq, central-abs}
 
@@ -123,10 +123,7 @@ stays-low zero E l x h k =
 stays-low (suc d) E l x h k = stays (2 ^ suc d) E l x (subst (λ (n : ℕ). natAbs l + E < n) halves h) k
   where
     halves : 2 ^ (suc d - 1) ≡ 2 ^ suc d / 2
-    halves = ap (λ (n : ℕ). 2 ^ n) less-one ∙ sym (rw (pow-succ' 2 d) (mul-div-cancel-left (2 ^ d) (lit< tt)))
-      where
-        less-one : suc d - 1 ≡ d
-        less-one = omega arith
+    halves = ap (λ (n : ℕ). 2 ^ n) (less-one d) ∙ sym (rw (pow-succ' 2 d) (mul-div-cancel-left (2 ^ d) (lit< tt)))
 
 -- If w is centred by q, |w| is below floor(q/2) − E and its |low part| below 2^(d−1) − E, then every v that is congruent to
 -- w + x with |x| at most E has w's high part: what the signer rounds, the receiver rounds alike.

@@ -12,10 +12,11 @@ use Rattle.sampling.proofs.take_y.Kinds as take-y-kinds
 use Rattle.sampling.proofs.take_y.Reads as take-y
 use Rattle.sampling.proofs.take_positions.Kinds as take-positions-kinds
 use Rattle.sampling.proofs.take_positions.Reads as take-positions
+use Rattle.sampling.proofs.Taken.number.Kinds as taken-number-kinds
+use Rattle.sampling.proofs.Taken.number.Reads as taken-number
 
 -- answers with one number are one answer
 same-answer : (x y : Taken) → takenNumber x ≡ takenNumber y → x ≡ y
-unfolding takenNumber
 same-answer Done Done e = refl
 same-answer Done Length e = absurd (omega arith)
 same-answer Length Done e = absurd (omega arith)
@@ -41,3 +42,8 @@ take-positions-places κs a x y e f p q = p .1 .0 ∙ sym (q .1 .0)
 
 pub take-positions-signs : Output 3 take-positions-kinds.ps take-positions-kinds.r take-positions.Learnt (λ κs e. now (e .1 .1 .0))
 take-positions-signs κs a x y e f p q = p .1 .1 ∙ sym (q .1 .1)
+
+-- ---- the number of an answer
+
+pub taken-number-determined : Result 0 taken-number-kinds.ps taken-number-kinds.r taken-number.Learnt
+taken-number-determined κs a x y e f p q = p ∙ sym q

@@ -25,11 +25,9 @@ use Rattle.sampling.proofs.ValueSteps.{Kept}
 -- ---- the answer, and what an output holds after it
 
 pub length-is : {number : ℕ} → number ≡ 1 → takenNumber Length ≡ number
-unfolding takenNumber
 length-is e = sym e
 
 pub done-is : {number : ℕ} → number ≡ 0 → takenNumber Done ≡ number
-unfolding takenNumber
 done-is e = sym e
 
 pub kept-as : {A : Type 0} {number : ℕ} (new old : A) → number ≡ 1 → old ≡ after number new old

@@ -13,7 +13,7 @@ use lib.IntN.{ℤ, pos, negsuc}
 use lib.ListN.{length, getD, take, drop, take-append-drop, length-drop, length-map, drop-of-length-le}
 use lib.Seq.{take-suc, take-all, drop-cons, length-take-le, getD-take, getD-drop}
 use borrow.Author.Tests.{eq-eqb, ne-eqb}
-use Rattle.whole.specs.Int.{lt-or-le}
+use Rattle.whole.specs.Int.{lt-or-le, less-one}
 use Rattle.whole.specs.Below.{Below}
 use Rattle.packing.specs.Digits.{value}
 use Rattle.packing.specs.Laws.{value-drop}
@@ -77,9 +77,6 @@ pub free-on : (n steps p : ℕ) (ps : List ℕ) → 0 < steps → isIn p ps ≡ 
 unfolding free
 free-on n zero p ps h e = absurd (omega arith)
 free-on n (suc steps) p ps h e = rw (e, less-one steps)
-  where
-    less-one : (k : ℕ) → suc k - 1 ≡ k
-    less-one k = omega arith
 
 pub free-none : (n p : ℕ) (ps : List ℕ) → free n 0 p ps ≡ p
 unfolding free

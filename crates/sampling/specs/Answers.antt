@@ -3,6 +3,6 @@ use Prim.Native.Nat.{ℕ}
 use Rattle.sampling.specs.declared.Taken.{Taken}
 use Rattle.sampling.specs.declared.Taken.the-variants.{Done, Length}
 
-unfoldable pub takenNumber : Taken → ℕ
+abbrev pub takenNumber : Taken → ℕ
 takenNumber Done = 0
 takenNumber Length = 1

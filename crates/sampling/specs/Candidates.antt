@@ -1,7 +1,7 @@
 -- Candidates: a stream cut into pieces of whole bytes, low byte first. Trailing bytes short of a candidate are not read.
 -- Assumes nothing: these are definitions.
 use mathlib.Core.Bool.{Bool, true, false}
-use mathlib.Core.List.{List, [], _∷_}
+use mathlib.Core.List.{List, _∷_}
 use Prim.Native.Nat.{ℕ, _*_, _/_, _%_, _^_}
 use lib.ListN.{length, take, drop}
 use Rattle.whole.specs.Table.{table}

@@ -1,5 +1,4 @@
 -- Laws of drawing a_1..a_k one at a time.
---     few-places                      a position fits two bytes
 --     few-values, few-candidates      the counts fit a word
 --     started-a                       the start of stream 1
 --     after-a                         the first n values that were left are written
@@ -10,17 +9,18 @@
 use mathlib.Core.Path.{_≡_, refl, sym, ap, _∙_}
 use mathlib.Core.List.{List, _++_}
 use Prim.Native.Nat.{ℕ, _+_, _*_, _-_, _^_, _≤_, _<_}
-use native.Mathlib.Nat.{mul-le-mul, mul-le-mul-left, mul-zero}
+use native.Mathlib.Nat.{mul-zero}
 use native.Mathlib.Omega.{arith}
 use lib.ListN.{length, take, drop}
 use lib.Seq.{take-at, drop-at, drop-drop}
-use lib.Pow.{pow-mono}
 use Rattle.whole.specs.Below.{Below, below-more}
+use Rattle.whole.specs.Rows.{row-fits, row-next}
 use Rattle.shake.specs.declared.Sponge.{Sponge}
 use Rattle.shake.specs.Sponge.{absorbed, squeezed}
 use Rattle.sets.specs.declared.Numbers.{Numbers}
 use Rattle.sets.specs.Good.{Good}
 use Rattle.sets.specs.Marks.{fresh}
+use Rattle.sets.specs.GoodLaws.{row-few}
 use Rattle.sampling.specs.declared.drawn.DrawA.{DrawA}
 use Rattle.sampling.specs.Candidates.{candidates}
 use Rattle.sampling.specs.CandidatesLaws.{candidates-below}
@@ -32,17 +32,11 @@ use Rattle.sampling.specs.DrawA.{valuesLeft, ValidA, StartedA, NextA, Af
 
 -- ---- counts
 
-pub few-places : (s : Numbers) → Good s → s .n ≤ 2 ^ 16
-few-places s g = rw (g .n-power) (pow-mono (g .position-fits))
-
-small : (s : Numbers) → Good s → s .k * s .n ≤ 255 * 2 ^ 16
-small s g = mul-le-mul (g .k-few) (few-places s g)
-
 pub few-values : (s : Numbers) → Good s → s .k * s .n < 2 ^ 64
-few-values s g = omega (arith, small s g)
+few-values s g = omega (arith, row-few g)
 
 pub few-candidates : (s : Numbers) → Good s → 4 * (s .k * s .n) < 2 ^ 64
-few-candidates s g = omega (arith, small s g)
+few-candidates s g = omega (arith, row-few g)
 
 -- ---- the start
 
@@ -106,7 +100,7 @@ module _ {s : Numbers} {seedA : List ℕ} {i : ℕ} {d : DrawA} (a : AtA s seedA
       record {
         good = g;
         valid = a .valid;
-        needed = omega (arith, a .need-is, mul-le-mul-left (s .n) h);
+        needed = omega (arith, a .need-is, row-fits (s .n) (s .k) i h);
         long = e;
       }
 
@@ -119,11 +113,8 @@ module _ {s : Numbers} {seedA : List ℕ} {i : ℕ} {d : DrawA} (a : AtA s seedA
   at-next h next =
       record {
         left-is =
-            next .rest ∙ ap (drop (s .n)) (a .left-is) ∙ drop-drop (s .n) (s .n * i) (allA s seedA)
-            ∙ ap (λ (m : ℕ). drop m (allA s seedA)) one-more;
+            rw (row-next (s .n) i)
+            (next .rest ∙ ap (drop (s .n)) (a .left-is) ∙ drop-drop (s .n) (s .n * i) (allA s seedA));
         valid = next .valid;
-        need-is = omega (arith, next .need-is, a .need-is, mul-le-mul-left (s .n) h);
+        need-is = omega (arith, next .need-is, a .need-is, row-next (s .n) i, row-fits (s .n) (s .k) i h);
       }
-    where
-      one-more : s .n * i + s .n ≡ s .n * (i + 1)
-      one-more = omega arith

@@ -3,7 +3,7 @@
 -- position that comes next, counting up, with 0 after n − 1. The answer is in the order of drawing.
 -- Assumes nothing: these are definitions, and one sum that they give.
 use mathlib.Core.Path.{_≡_, refl}
-use mathlib.Core.Bool.{Bool, true, false, cond, not, _||_}
+use mathlib.Core.Bool.{Bool, false, cond, not, _||_}
 use mathlib.Core.List.{List, [], _∷_, map}
 use Prim.Native.Nat.{ℕ, zero, suc, _+_, _/_, _%_, _^_}
 use lib.Dec.{ltb, eqb}

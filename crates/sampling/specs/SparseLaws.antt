@@ -1,19 +1,19 @@
 -- A polynomial that is given as different positions with signs +1 or −1 has ±1 at the positions and 0 elsewhere.
 -- Assumes nothing.
-use mathlib.Core.Path.{_≡_, refl, sym, ap}
+use mathlib.Core.Path.{_≡_, refl, sym}
 use mathlib.Core.Bool.{Bool, true, false, _||_, false≢true}
-use mathlib.Core.Logic.{_⊎_, inl, inr, ⊎-elim}
+use mathlib.Core.Logic.{_⊎_, ⊎-elim}
 use mathlib.Core.List.{List, [], _∷_}
 use Prim.Native.Nat.{ℕ, zero, suc, _+_, _≤_, zero-le, suc-le-suc}
 use native.Mathlib.Omega.{arith}
 use lib.Dec.{eqb}
-use lib.IntN.{ℤ, pos, negsuc, natAbs, _+ℤ_, +ℤ-idl, +ℤ-idr}
+use lib.IntN.{ℤ, pos, natAbs, _+ℤ_, +ℤ-idl, +ℤ-idr}
 use lib.ListN.{length}
-use borrow.Author.Tests.{eq-eqb, ne-eqb, eqb-true, eqb-false}
+use borrow.Author.Tests.{eqb-true, eqb-false}
 use Rattle.whole.specs.Int.{lt-or-le, abs-sum}
 use Rattle.whole.specs.Below.{below-tail}
 use Rattle.whole.specs.Sum.{total, total-zero, total-add, total-le}
-use Rattle.ring.specs.Sparse.{term, sparse, Signed}
+use Rattle.ring.specs.Sparse.{term, sparse, Signed, sign-size, term-at, term-off}
 use Rattle.sampling.specs.Positions.{isIn}
 use Rattle.sampling.specs.FreeLaws.{Distinct, distinct-tail, distinct-head}
 
@@ -24,14 +24,6 @@ signed-tail h =
       inside = below-tail (h .inside);
       signs = λ i l. h .signs (suc i) (suc-le-suc l);
     }
-
-term-at : (p : ℕ) (s : ℤ) → term p s p ≡ s
-unfolding term
-term-at p s = rw (eq-eqb p p refl)
-
-term-off : (p : ℕ) (s : ℤ) (k : ℕ) → (p ≡ k → ⊥) → term p s k ≡ pos 0
-unfolding term
-term-off p s k h = rw (ne-eqb p k h)
 
 -- 0 where there is no position
 sparse-off : (ps : List ℕ) (ss : List ℤ) (k : ℕ) → isIn k ps ≡ false → sparse ps ss k ≡ pos 0
@@ -44,10 +36,6 @@ sparse-off (p ∷ ps) (s ∷ ss) k e = go (eqb k p) refl e (sparse-off ps ss k)
     go true q e ih = absurd (false≢true (sym e))
     go false q e ih = rw (term-off p s k (λ r. eqb-false k p q (sym r)), ih e)
 
-sign-one : (s : ℤ) → (s ≡ pos 1) ⊎ (s ≡ negsuc 0) → natAbs s ≡ 1
-sign-one s (inl e) = ap natAbs e
-sign-one s (inr e) = ap natAbs e
-
 pub sparse-small : (n : ℕ) (ps : List ℕ) (ss : List ℤ) → Signed n ps ss → Distinct ps → (k : ℕ) → natAbs (sparse ps ss k) ≤ 1
 unfolding sparse
 sparse-small n [] ss h d k = zero-le
@@ -57,7 +45,7 @@ sparse-small n (p ∷ ps) (s ∷ ss) h d k = go (eqb p k) refl (sparse-small n p
     go : (t : Bool) → eqb p k ≡ t → natAbs (sparse ps ss k) ≤ 1 → natAbs (term p s k +ℤ sparse ps ss k) ≤ 1
     go true e ih =
         rw (← eqb-true p k e)
-        (rw (term-at p s, sparse-off ps ss p (distinct-head p ps d), +ℤ-idr s) (omega (arith, sign-one s (h .signs 0 (omega arith)))))
+        (rw (term-at p s, sparse-off ps ss p (distinct-head p ps d), +ℤ-idr s) (omega (arith, sign-size (h .signs 0 (omega arith)))))
     go false e ih = rw (term-off p s k (eqb-false p k e), +ℤ-idl (sparse ps ss k)) ih
 
 term-none : (n p : ℕ) (s : ℤ) → n ≤ p → total n (λ k. natAbs (term p s k)) ≡ 0
@@ -86,6 +74,6 @@ sparse-total n m (p ∷ ps) (s ∷ ss) h =
       total-le m (λ k. natAbs (term p s k +ℤ sparse ps ss k)) (λ k. natAbs (term p s k) + natAbs (sparse ps ss k)) (λ k l. abs-sum (term p s k) (sparse ps ss k)),
       total-add m (λ k. natAbs (term p s k)) (λ k. natAbs (sparse ps ss k)),
       term-total m p s,
-      sign-one s (h .signs 0 (omega arith)),
+      sign-size (h .signs 0 (omega arith)),
       sparse-total n m ps ss (signed-tail h),
     )

@@ -22,10 +22,22 @@ use sets::SetI;
 
 // What comes back.
 pub enum Taken {
-    // the outputs are written
+    // 0: the outputs are written
     Done,
-    // more is needed than the stream holds, or a length is not the one named
+    // 1: more is needed than the stream holds, or a length is not the one named
     Length,
+}
+
+impl Taken {
+    // Document 01's number.
+    pub fn number(self) -> u8
+        ensures { λ r. ⌜ r ≡ takenNumber self ⌝ }
+    {
+        match self {
+            Taken::Done => 0,
+            Taken::Length => 1,
+        }
+    }
 }
 
 // ---- candidates

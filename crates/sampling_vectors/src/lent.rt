@@ -4,21 +4,10 @@ use sampling::Taken;
 ghost use mathlib.Core.Path.{_≡_};
 ghost use Prim.Native.Nat.{_*_, _≤_};
 ghost use lib.ListN.{length};
-ghost use Rattle.sampling.specs.Answers.{takenNumber};
-
-// The answer's number.
-fn number_of(t: Taken) -> u8
-    ensures { λ r. ⌜ r ≡ takenNumber t ⌝ }
-{
-    match t {
-        Taken::Done => 0,
-        Taken::Length => 1,
-    }
-}
 
 // Writes the answer's number as one byte.
 fn print_answer(t: Taken) {
-    let number = [number_of(t)];
+    let number = [t.number()];
     cases::print_hex(&number);
 }
 

@@ -1,10 +1,29 @@
 -- What the conditions on a set's numbers give.
+--     q-some                   there are residues
+--     n-some, n-few            how many coefficients a polynomial has at least and at most
+--     row-few, row-inside      how many k polynomials in a row have at most, so that every place among them fits a word
 -- Assumes nothing.
-use Prim.Native.Nat.{_<_}
+use Prim.Native.Nat.{ℕ, _+_, _*_, _≤_, _<_}
+use native.Mathlib.Nat.{mul-le-mul}
 use native.Mathlib.Omega.{arith}
+use lib.Pow.{pow-pos, pow-mono}
+use Rattle.whole.specs.Rows.{row-fits}
 use Rattle.sets.specs.declared.Numbers.{Numbers}
 use Rattle.sets.specs.Good.{Good}
 
--- there are residues
-pub q-some : {set : Numbers} → Good set → 0 < set .q
-q-some good = omega (arith, good .q-large)
+module _ {set : Numbers} (good : Good set) where
+  pub q-some : 0 < set .q
+  q-some = omega (arith, good .q-large)
+
+  pub n-some : 0 < set .n
+  n-some = rw (good .n-power) (pow-pos (set .«position_bits»))
+
+  pub n-few : set .n ≤ 65536
+  n-few = rw (good .n-power) (pow-mono (good .position-fits))
+
+  pub row-few : set .k * set .n ≤ 16711680
+  row-few = mul-le-mul (good .k-few) n-few
+
+  -- polynomial i ends among them
+  pub row-inside : {i : ℕ} → i < set .k → set .n * i + set .n ≤ 16711680
+  row-inside {i} l = omega (arith, row-fits (set .n) (set .k) i l, row-few)

@@ -9,7 +9,7 @@ use mathlib.Core.Path.{_≡_, refl, sym, ap, subst, _∙_}
 use mathlib.Core.Bool.{Bool, true, false, cond}
 use mathlib.Core.List.{List, [], _∷_}
 use mathlib.Core.Logic.{_⊎_, inl, inr, ⊎-elim}
-use Prim.Native.Nat.{ℕ, zero, suc, _+_, _-_, _*_, _/_, _%_, _^_, _≤_, _<_}
+use Prim.Native.Nat.{ℕ, suc, _+_, _-_, _*_, _/_, _%_, _^_, _≤_, _<_}
 use native.Mathlib.Nat.{add-zero}
 use native.Mathlib.Numerals.{add-one}
 use native.Mathlib.Omega.{arith}
@@ -23,6 +23,7 @@ use Rattle.whole.specs.Fill.{filled, filled-none, filled-more, filled-whole, le
 use Rattle.keccak.specs.Steps.{keccakF}
 use Rattle.shake.specs.declared.Sponge.{Sponge}
 use Rattle.shake.specs.Sponge.{xorAt, byteAt, blank, passed, absorbable, absorbByte, absorbAll, absorbed, ended, squeezable, squeezeNext, bytesOf, stateAfter, squeezed, afterSqueeze}
+use Rattle.shake.specs.Pieces.{length-bytesOf}
 
 -- the state by its parts
 abbrev pub state : List ℕ → ℕ → Bool → Sponge
@@ -153,11 +154,6 @@ module _ (s : Sponge) {r : Sponge} (e : r ≡ absorbable s) (bytes : List ℕ) w
 
 -- ---- squeezing
 
-length-bytes : (n : ℕ) (s : Sponge) → length (bytesOf n s) ≡ n
-unfolding bytesOf
-length-bytes zero s = refl
-length-bytes (suc n) s = ap suc (length-bytes n (squeezeNext s))
-
 -- of the bytes that follow the state s the first k stand in the slice; the state at hand gives the others, and comes to the same
 pub record Squeezing (s : Sponge) (old out lanes : List ℕ) (p k : ℕ) : Type 0 where
   pub near : p < 136
@@ -195,18 +191,18 @@ module _ {s : Sponge} {old out lanes : List ℕ} {p k : ℕ} (a : Squeezing s ol
         after = sym t ∙ a .after;
         done =
             rw (a .done)
-            (filled-more k (bytesOf (length old) s) old 0 v (omega (arith, length-bytes (length old) s)) l
+            (filled-more k (bytesOf (length old) s) old 0 v (omega (arith, length-bytesOf (length old) s)) l
             (first-at (bytesOf (length old) s) k (a .more ∙ b)));
       }
 
   pub squeezing-length : k ≤ length old → length out ≡ length old
-  squeezing-length h = rw (a .done) (length-filled k (bytesOf (length old) s) old (omega (arith, length-bytes (length old) s)) h)
+  squeezing-length h = rw (a .done) (length-filled k (bytesOf (length old) s) old (omega (arith, length-bytesOf (length old) s)) h)
 
   pub squeezing-all : k ≡ length old → (out ≡ bytesOf (length old) s) × (state lanes p true ≡ stateAfter (length old) s)
   unfolding stateAfter
   squeezing-all e =
       let z : length old - k ≡ 0 = omega arith in
-      (a .done ∙ rw e (filled-whole (bytesOf (length old) s) old (length-bytes (length old) s)), sym (rw z) ∙ a .after)
+      (a .done ∙ rw e (filled-whole (bytesOf (length old) s) old (length-bytesOf (length old) s)), sym (rw z) ∙ a .after)
 
 -- one byte
 pub squeezing-one : (lanes : List ℕ) (p : ℕ) {next : List ℕ} {v done p′ : ℕ} → v ≡ byteAt lanes p → ((q : Bool) → passed lanes done q ≡ state next p′ q)

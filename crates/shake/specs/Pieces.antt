@@ -124,7 +124,7 @@ pub afterSqueeze-add : (m n : ℕ) (s : Sponge) → afterSqueeze (m + n) s ≡ a
 unfolding afterSqueeze
 afterSqueeze-add m n s = rw (again m s) (stateAfter-add m n (squeezable s))
 
-length-bytesOf : (n : ℕ) (s : Sponge) → length (bytesOf n s) ≡ n
+pub length-bytesOf : (n : ℕ) (s : Sponge) → length (bytesOf n s) ≡ n
 unfolding bytesOf
 length-bytesOf zero s = refl
 length-bytesOf (suc n) s = ap suc (length-bytesOf n (squeezeNext s))

@@ -10,7 +10,7 @@ use Rattle.cases.specs.declared.Number.{Number}
 use Rattle.cases.specs.declared.Number.the-variants.{Is, Nothing}
 use Rattle.cases.specs.declared.Piece.{Piece}
 use Rattle.cases.specs.declared.Piece.the-variants.{Is as Piece·Is, Nothing as Piece·Nothing}
-use Rattle.cases.specs.Input.{pick, byteAt, numberAt, pieceAt, partOf}
+use Rattle.cases.specs.Input.{pick, numberAt, pieceAt, partOf}
 use Rattle.shake_vectors.specs.declared.Turn.{Turn}
 use Rattle.shake_vectors.specs.Each.{absorbedEach, afterEach}
 

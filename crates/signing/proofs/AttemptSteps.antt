@@ -10,7 +10,7 @@ use Rattle.whole.specs.Residue.{residue-lt}
 use Rattle.whole.specs.Table.{joined}
 use Rattle.whole.specs.Below.{Below}
 use Rattle.whole.specs.Refusal.{every, eachBelow}
-use Rattle.whole.specs.RefusalLaws.{not-first}
+use Rattle.whole.specs.RefusalLaws.{not-first, eachBelow-ext}
 use Rattle.whole.specs.Twos.{twos}
 use Rattle.rounding.specs.Tests.{fitsByte}
 use Rattle.ring.specs.Sparse.{sparse}
@@ -29,7 +29,6 @@ use Rattle.signing.specs.Attempt.{passes, fails, overflows, highsOf, vOf
 use Rattle.signing.specs.Parts.{zWith, wOne, wWith}
 use Rattle.signing.specs.Answers.{keyWith}
 use Rattle.signing.specs.Asks.{Terms, MakesZ, TestsW, Commits, Responds, Places, Secrets}
-use Rattle.signing.proofs.Rows.{each-ext}
 use Rattle.signing.proofs.ProductSteps.{v-all-below, v-all-length, v-parts}
 
 -- ---- once c' is known
@@ -153,7 +152,7 @@ module _ {set : Numbers} {s e : List ℕ} (sec : Secrets set s e) {y₀ : List �
       same-tests =
           rw (y-is, w-is)
           (ap (λ (b : Bool). zInRange set (zFrom set s (yOf set rand counter) (encOf set c)) && b)
-          (each-ext (set .k) _ _ (λ i l. ap (λ (x : List ℕ). wPasses set (wOne set (polynomial (set .n) i e) x (polynomialOf (encOf set c)))) (v-parts set seedA (yOf set rand counter) i l))))
+          (eachBelow-ext (set .k) _ _ (λ i l. ap (λ (x : List ℕ). wPasses set (wOne set (polynomial (set .n) i e) x (polynomialOf (encOf set c)))) (v-parts set seedA (yOf set rand counter) i l))))
 
       outcome : attempt set (keyWith s e seedA g) digest rand counter ≡ cond (rowPasses set s e y w (encOf set c)) (passes (zFrom set s y (encOf set c)) c) fails
       unfolding attempt tried answered

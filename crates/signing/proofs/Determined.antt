@@ -10,6 +10,10 @@ use Rattle.signing.specs.declared.SignAnswer.the-variants.{Signed, Lengt
 use Rattle.signing.specs.Answers.{signAnswerNumber, signAnswerCounter}
 use Rattle.signing.proofs.sign.Kinds as sign-kinds
 use Rattle.signing.proofs.sign.Reads as sign
+use Rattle.signing.proofs.SignAnswer.number.Kinds as sign-answer-number-kinds
+use Rattle.signing.proofs.SignAnswer.number.Reads as sign-answer-number
+use Rattle.signing.proofs.SignAnswer.counter.Kinds as sign-answer-counter-kinds
+use Rattle.signing.proofs.SignAnswer.counter.Reads as sign-answer-counter
 
 -- the answer with this number and this counter
 abbrev answerWith : ℕ → ℕ → SignAnswer
@@ -45,3 +49,11 @@ sign-determined κs a x y e f p q = answer-one x y (p .0 ∙ sym (q .0)) (p .1 .
 
 pub sign-signature : Output 4 sign-kinds.ps sign-kinds.r sign.Learnt (λ κs e. now (e .1 .1 .1 .1 .0))
 sign-signature κs a x y e f p q = p .1 .1 ∙ sym (q .1 .1)
+
+-- ---- the number of an answer, and what comes with it
+
+pub sign-answer-number-determined : Result 0 sign-answer-number-kinds.ps sign-answer-number-kinds.r sign-answer-number.Learnt
+sign-answer-number-determined κs a x y e f p q = p ∙ sym q
+
+pub sign-answer-counter-determined : Result 0 sign-answer-counter-kinds.ps sign-answer-counter-kinds.r sign-answer-counter.Learnt
+sign-answer-counter-determined κs a x y e f p q = p ∙ sym q

@@ -11,6 +11,7 @@ use Rattle.whole.specs.Table.{joined}
 use Rattle.whole.specs.Refusal.{every}
 use Rattle.whole.specs.RefusalLaws.{every-append, every-map}
 use Rattle.whole.specs.Twos.{twos}
+use Rattle.whole.specs.Rows.{row-lent}
 use Rattle.rounding.specs.Parts.{high}
 use Rattle.rounding.specs.Tests.{fitsByte}
 use Rattle.rounding.specs.Asks.{HighBytes}
@@ -23,7 +24,6 @@ use Rattle.records.specs.Layout.{polynomial}
 use Rattle.records.specs.PublicLaws.{polynomial-length, polynomial-below}
 use Rattle.signing.specs.Attempt.{highsOf}
 use Rattle.signing.specs.Asks.{Absorbs}
-use Rattle.signing.proofs.Rows.{lent-is}
 
 -- the high parts of v_(i + 1)
 abbrev pub highsAt : Numbers → List ℕ → ℕ → List ℤ
@@ -56,7 +56,7 @@ module _ {set : Numbers} {v bytes : List ℕ} {state : Sponge} {fit : Bool} {i :
   pub absorbing-asks : {old : List ℕ} → Absorbs set v old → i < set .k
       → HighBytes (set .q) (set .d) (take (set .n * i + set .n - set .n * i) (drop (set .n * i) v)) bytes
   absorbing-asks a l =
-      rw (lent-is (set .n) i v)
+      rw (row-lent (set .n) i v)
       (record {
         below = polynomial-below (set .q) (set .n) i v (a .v-below);
         small = a .good .q-small;
@@ -88,12 +88,12 @@ module _ {set : Numbers} {v bytes : List ℕ} {state : Sponge} {fit : Bool} {i :
       map-map (x ∷ xs) = ap (λ (r : List ℕ). twos 8 (high (set .q) (set .d) (pos x)) ∷ r) (map-map xs)
 
       bytes-are : new ≡ map (twos 8) (highsAt set v i)
-      bytes-are = eb ∙ ap (map (λ x. twos 8 (high (set .q) (set .d) (pos x)))) (lent-is (set .n) i v) ∙ map-map (polynomial (set .n) i v)
+      bytes-are = eb ∙ ap (map (λ x. twos 8 (high (set .q) (set .d) (pos x)))) (row-lent (set .n) i v) ∙ map-map (polynomial (set .n) i v)
 
       fits-are : fits ≡ every fitsByte (highsAt set v i)
       fits-are =
           ef
-          ∙ ap (every (λ x. fitsByte (high (set .q) (set .d) (pos x)))) (lent-is (set .n) i v)
+          ∙ ap (every (λ x. fitsByte (high (set .q) (set .d) (pos x)))) (row-lent (set .n) i v)
           ∙ sym (every-map fitsByte (λ x. high (set .q) (set .d) (pos x)) (polynomial (set .n) i v))
 
   pub absorbing-all : set .k ≤ i

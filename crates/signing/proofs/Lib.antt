@@ -1,4 +1,3 @@
-pub mod Rows
 pub mod HighSteps
 pub mod TestSteps
 pub mod ProductSteps

@@ -1,34 +1,35 @@
 -- v_1..v_k are made one after another, and then their high parts: the steps up to c'. Assumes nothing.
-use mathlib.Core.Path.{_≡_, refl, sym, ap, ap₂, subst, _∙_}
-use mathlib.Core.List.{List, _++_, map, append-nil, append-assoc}
+use mathlib.Core.Path.{_≡_, sym, ap, _∙_}
+use mathlib.Core.List.{List, _++_, map}
 use Prim.Native.Nat.{ℕ, _+_, _*_, _-_, _≤_, _<_, zero-le}
-use native.Mathlib.Nat.{le-antisymm, mul-comm, mul-zero}
+use native.Mathlib.Nat.{le-antisymm, mul-comm, add-sub-cancel-left}
 use native.Mathlib.Numerals.{add-one}
 use native.Mathlib.Omega.{arith}
 use lib.IntN.{ℤ, pos}
-use lib.ListN.{length, take, drop, drop-of-length-le, length-append, length-drop}
-use lib.Seq.{take-at, drop-drop, drop-at}
-use Rattle.whole.specs.Residue.{residue, residue-eq, residue-same, Same, same-sym, same-refl}
-use Rattle.whole.specs.Table.{joined, joined-ext, joined-length, joined-part, getD-table, table-ext}
+use lib.ListN.{length, take, drop}
+use Rattle.whole.specs.Residue.{residue, residue-eq, Same, same-refl}
+use Rattle.whole.specs.Table.{joined, joined-ext, joined-length, joined-part, table-ext}
 use Rattle.whole.specs.Below.{Below, below-joined}
 use Rattle.whole.specs.Parts.{part-length}
+use Rattle.whole.specs.Rows.{row-fits, row-lent}
+use Rattle.whole.specs.Written.{Written, written-none, written-length, written-more, written-all, put-part}
 use Rattle.rounding.specs.Parts.{high}
 use Rattle.ring.specs.Product.{mul, mul-same}
-use Rattle.ring.specs.Lists.{naturals, integers, residues, length-residues, residues-below}
+use Rattle.ring.specs.Lists.{naturals, integers, residues, length-residues, residues-below, residues-at}
 use Rattle.ring.specs.Asks.{Factors, Small}
 use Rattle.sets.specs.declared.Numbers.{Numbers}
 use Rattle.sets.specs.Good.{Good}
 use Rattle.sets.specs.GoodLaws.{q-some}
 use Rattle.sampling.specs.declared.drawn.DrawA.{DrawA}
-use Rattle.sampling.specs.DrawA.{valuesLeft, ValidA, StartedA, NextA, AfterA}
-use Rattle.sampling.specs.Streams.{allA, aOf, yOf}
+use Rattle.sampling.specs.DrawA.{StartedA, NextA, AfterA}
+use Rattle.sampling.specs.Streams.{aOf, yOf}
 use Rattle.sampling.specs.StreamsLaws.{aOf-length, aOf-below, yOf-length, yOf-size}
+use Rattle.sampling.specs.DrawALaws.{AtA, at-first, at-asks, at-written, at-next}
 use Rattle.records.specs.Layout.{polynomial}
-use Rattle.records.specs.PublicLaws.{row-fits}
 use Rattle.signing.specs.Attempt.{highsOf, vOf}
 use Rattle.signing.specs.Parts.{productOf}
 use Rattle.signing.specs.Asks.{Multiplies, Absorbs, Commits}
-use Rattle.signing.proofs.Rows.{next-row, lent-is, back-length}
+use Rattle.signing.specs.AttemptLaws.{vOf-length}
 
 product-length : (set : Numbers) (seedA yr : List ℕ) (i : ℕ) → length (productOf set seedA yr i) ≡ set .n
 unfolding productOf
@@ -38,10 +39,8 @@ product-length set seedA yr i = length-residues (set .q) (set .n) (mul (set .n) 
 pub record Multiplying (set : Numbers) (seedA yr old a v : List ℕ) (stream : DrawA) (i : ℕ) : Type 0 where
   pub near : i ≤ set .k
   pub a-long : length a ≡ set .n
-  pub valid : ValidA stream
-  pub need-is : stream .need + set .n * i ≡ set .k * set .n
-  pub left : valuesLeft set stream ≡ drop (set .n * i) (allA set seedA)
-  pub done : v ≡ joined i (productOf set seedA yr) ++ drop (set .n * i) old
+  pub at : AtA set seedA i stream
+  pub done : Written (joined i (productOf set seedA yr)) old v
 
 module _ {set : Numbers} {seedA yr old first : List ℕ} (m : Multiplies set yr first old) where
   pub multiplying-none : {stream : DrawA} → StartedA set seedA stream → Multiplying set seedA yr old first old stream 0
@@ -50,47 +49,33 @@ module _ {set : Numbers} {seedA yr old first : List ℕ} (m : Multiplies set yr 
       record {
         near = zero-le;
         a-long = m .a-long;
-        valid = s .valid;
-        need-is = rw (mul-zero (set .n)) (omega (arith, s .need-is));
-        left = rw (mul-zero (set .n)) (s .all);
-        done = rw (mul-zero (set .n)) refl;
+        at = at-first s;
+        done = written-none old;
       }
 
   module _ {a v : List ℕ} {stream : DrawA} {i : ℕ} (h : Multiplying set seedA yr old a v stream i) where
-    made-long : length (joined i (productOf set seedA yr)) ≡ set .n * i
-    made-long = joined-length i (set .n) (productOf set seedA yr) (λ j l. product-length set seedA yr j) ∙ mul-comm i (set .n)
+    so-far : length (joined i (productOf set seedA yr)) ≡ i * set .n
+    so-far = joined-length i (set .n) (productOf set seedA yr) (λ j l. product-length set seedA yr j)
 
     pub multiplying-length : length v ≡ length old
-    multiplying-length =
-        ap length (h .done)
-        ∙ simp (length-append, length-drop) (omega (arith, made-long, m .v-long, within))
-      where
-        within : set .n * i ≤ set .k * set .n
-        within = omega (arith, h .need-is)
+    multiplying-length = written-length (h .done)
 
     module _ (l : i < set .k) where
       pub multiplying-fits : set .n * i + set .n ≤ length v
       multiplying-fits = omega (arith, row-fits (set .n) (set .k) i l, multiplying-length, m .v-long)
 
       pub multiplying-next : NextA set stream (length a)
-      multiplying-next =
-          record {
-            good = m .good;
-            valid = h .valid;
-            needed = omega (arith, row-fits (set .n) (set .k) i l, h .need-is);
-            long = h .a-long;
-          }
+      multiplying-next = at-asks (h .at) (m .good) l (h .a-long)
 
       module _ {drawn : List ℕ} {after : DrawA} (d : AfterA set stream drawn after) where
         drawn-is : drawn ≡ aOf set seedA i
-        unfolding aOf
-        drawn-is = d .written ∙ ap (take (set .n)) (h .left)
+        drawn-is = at-written (h .at) d
 
         drawn-long : length drawn ≡ set .n
         drawn-long = ap length drawn-is ∙ aOf-length set (m .good) seedA i l
 
         lent-long : length (take (set .n * i + set .n - set .n * i) (drop (set .n * i) v)) ≡ set .n
-        lent-long = ap length (lent-is (set .n) i v) ∙ part-length (set .n * i) (set .n) v multiplying-fits
+        lent-long = ap length (row-lent (set .n) i v) ∙ part-length (set .n * i) (set .n) v multiplying-fits
 
         pub multiplying-factors : Factors (set .q) drawn yr (take (set .n * i + set .n - set .n * i) (drop (set .n * i) v))
         multiplying-factors =
@@ -111,53 +96,26 @@ module _ {set : Numbers} {seedA yr old first : List ℕ} (m : Multiplies set yr 
             record {
               near = rw add-one l;
               a-long = drawn-long;
-              valid = d .valid;
-              need-is = rw (next-row (set .n) i) (omega (arith, d .need-is, h .need-is, row-fits (set .n) (set .k) i l));
-              left = rw (next-row (set .n) i) (d .rest ∙ ap (drop (set .n)) (h .left) ∙ drop-drop (set .n) (set .n * i) (allA set seedA));
-              done = rw (size, next-row (set .n) i, add-one) (ap₂ _++_ front (ap₂ _++_ new-is back) ∙ sym (append-assoc (joined i (productOf set seedA yr)) (productOf set seedA yr i) (drop (set .n * i + set .n) old)));
+              at = at-next (h .at) l d;
+              done = rw add-one next;
             }
           where
-            size : set .n * i + set .n - set .n * i ≡ set .n
-            size = omega arith
-
-            front : take (set .n * i) v ≡ joined i (productOf set seedA yr)
-            front = ap (take (set .n * i)) (h .done) ∙ take-at (joined i (productOf set seedA yr)) (drop (set .n * i) old) (set .n * i) made-long
-
-            back : drop (set .n) (drop (set .n * i) v) ≡ drop (set .n * i + set .n) old
-            back =
-                ap (drop (set .n))
-                (ap (drop (set .n * i)) (h .done) ∙ drop-at (joined i (productOf set seedA yr)) (drop (set .n * i) old) (set .n * i) made-long)
-                ∙ drop-drop (set .n) (set .n * i) old
-
             new-is : new ≡ productOf set seedA yr i
             new-is = e ∙ rw (lent-long, drawn-is)
 
-        pub multiplying-back : (new : List ℕ) → length new ≡ length (take (set .n * i + set .n - set .n * i) (drop (set .n * i) v))
-            → length (take (set .n * i) v ++ (new ++ drop (set .n * i + set .n - set .n * i) (drop (set .n * i) v))) ≡ length old
-        multiplying-back new e =
-            rw size (back-length (set .n * i) (set .n) v new multiplying-fits (e ∙ lent-long) ∙ multiplying-length)
-          where
-            size : set .n * i + set .n - set .n * i ≡ set .n
-            size = omega arith
+            next : Written (joined i (productOf set seedA yr) ++ productOf set seedA yr i) old
+                (take (set .n * i) v ++ (new ++ drop (set .n * i + set .n - set .n * i) (drop (set .n * i) v)))
+            next =
+                written-more (h .done) (set .n * i) (set .n) (productOf set seedA yr i) (mul-comm (set .n) i ∙ sym so-far) (product-length set seedA yr i)
+                (omega (arith, multiplying-fits, multiplying-length))
+                (rw (new-is, add-sub-cancel-left (set .n * i) (set .n)) (put-part (set .n * i) (set .n) v (productOf set seedA yr i)))
 
     pub multiplying-all : set .k ≤ i → v ≡ joined (set .k) (productOf set seedA yr)
     multiplying-all l =
-        h .done
-        ∙ rw whole
-        (ap (λ (r : List ℕ). joined (set .k) (productOf set seedA yr) ++ r) (drop-of-length-le old end)
-        ∙ append-nil (joined (set .k) (productOf set seedA yr)))
-      where
-        whole : i ≡ set .k
-        whole = le-antisymm (h .near) l
-
-        end : length old ≤ set .n * set .k
-        end = omega (arith, m .v-long, mul-comm (set .k) (set .n))
+        let whole : i ≡ set .k = le-antisymm (h .near) l in
+        written-all (h .done) (so-far ∙ ap (λ (j : ℕ). j * set .n) whole ∙ sym (m .v-long)) ∙ ap (λ (j : ℕ). joined j (productOf set seedA yr)) whole
 
 -- ---- y, its residues, v_1..v_k and their high parts
-
-v-length : (set : Numbers) (seedA : List ℕ) (y : List ℤ) (i : ℕ) → length (vOf set seedA y i) ≡ set .n
-unfolding vOf
-v-length set seedA y i = length-residues (set .q) (set .n) (mul (set .n) (naturals (aOf set seedA i)) (integers y))
 
 pub v-all-below : (set : Numbers) → Good set → (seedA : List ℕ) (y : List ℤ) → Below (set .q) (joined (set .k) (vOf set seedA y))
 unfolding vOf
@@ -166,7 +124,7 @@ v-all-below set good seedA y =
     (λ i l. residues-below (set .q) (set .n) (mul (set .n) (naturals (aOf set seedA i)) (integers y)) (q-some good))
 
 pub v-all-length : (set : Numbers) (seedA : List ℕ) (y : List ℤ) → length (joined (set .k) (vOf set seedA y)) ≡ set .k * set .n
-v-all-length set seedA y = joined-length (set .k) (set .n) (vOf set seedA y) (λ j l. v-length set seedA y j)
+v-all-length set seedA y = joined-length (set .k) (set .n) (vOf set seedA y) (λ j l. vOf-length set seedA y j)
 
 -- of y's residues the products are those of y
 product-v : (set : Numbers) → Good set → (seedA : List ℕ) (y : List ℤ) (i : ℕ) → productOf set seedA (residues (set .q) (set .n) (integers y)) i ≡ vOf set seedA y i
@@ -182,13 +140,11 @@ product-v set good seedA y i =
     yr = residues (set .q) (set .n) (integers y)
 
     near : (j : ℕ) → j < set .n → Same (set .q) (naturals yr j) (integers y j)
-    near j m =
-        subst (λ (x : ℕ). Same (set .q) (pos x) (integers y j)) (sym (getD-table (set .n) j (λ k. residue (set .q) (integers y k)) 0 m))
-        (same-sym (residue-same (set .q) (integers y j) (q-some good)))
+    near j m = residues-at (set .q) (set .n) (integers y) j (q-some good) m
 
 -- the polynomials of v_1..v_k in a row
 pub v-parts : (set : Numbers) (seedA : List ℕ) (y : List ℤ) (i : ℕ) → i < set .k → polynomial (set .n) i (joined (set .k) (vOf set seedA y)) ≡ vOf set seedA y i
-v-parts set seedA y i l = joined-part (set .k) (set .n) i (vOf set seedA y) (λ j m. v-length set seedA y j) l
+v-parts set seedA y i l = joined-part (set .k) (set .n) i (vOf set seedA y) (λ j m. vOf-length set seedA y j) l
 
 pub v-highs : (set : Numbers) (seedA : List ℕ) (y : List ℤ) → highsOf set (λ i. polynomial (set .n) i (joined (set .k) (vOf set seedA y))) ≡ highsOf set (vOf set seedA y)
 unfolding highsOf

@@ -14,6 +14,7 @@ use Rattle.rounding.specs.Tests.{fitsByte}
 use Rattle.sets.specs.declared.Numbers.{Numbers}
 use Rattle.sets.specs.SetI.{setI, setI-good}
 use Rattle.sets.specs.Limits.{budgetLimit}
+use Rattle.sets.specs.GoodLaws.{n-few, row-few}
 use Rattle.sampling.specs.Streams.{yOf, encOf, challenge, messageDigest, randOf}
 use Rattle.records.specs.Layout.{seedBytes, secretBytes, signatureBytes}
 use Rattle.records.specs.Secret.{secretSeedA, secretSeedY, secretG}
@@ -25,7 +26,6 @@ use Rattle.signing.specs.SearchLaws.{found-smallest}
 use Rattle.signing.specs.Sign.{keyOf, signTests, signSearch, foundNumber, foundCounter, foundSignature, signNumber, signCounter, signSignature}
 use Rattle.signing.specs.Answers.{foundOf, keyWith}
 use Rattle.signing.specs.Asks.{Fitting, Places, Secrets, SearchesKey, Hashes, Signs}
-use Rattle.signing.proofs.Rows.{n-few, row-few}
 use Rattle.signing.proofs.InputSteps.{s-lent, e-lent, s-long, e-long}
 use Rattle.signing.specs.declared.search.Searched.the-variants as searched
 

@@ -4,11 +4,12 @@ use mathlib.Core.Bool.{Bool, true, false}
 use mathlib.Core.Logic.{⊎-elim}
 use mathlib.Core.List.{List, [], _∷_, _++_}
 use Prim.Native.Nat.{ℕ, suc, _+_, _*_, _-_, _^_, _≤_, _<_, zero-le, suc-le-suc}
-use native.Mathlib.Nat.{le-antisymm}
+use native.Mathlib.Nat.{le-antisymm, add-sub-cancel-left}
 use native.Mathlib.Numerals.{add-one}
 use native.Mathlib.Omega.{arith}
 use lib.IntN.{ℤ, pos, natAbs, _+ℤ_, _-ℤ_, _*ℤ_, +ℤ-comm}
 use lib.ListN.{length, getD, take, drop}
+use lib.Seq.{drop-drop}
 use Rattle.whole.specs.Int.{lt-or-le, abs-neg, abs-sum, abs-product}
 use Rattle.whole.specs.Residue.{residue}
 use Rattle.whole.specs.Table.{table, length-table, getD-table, table-ext}
@@ -16,6 +17,7 @@ use Rattle.whole.specs.Below.{Below, within-more, within-table}
 use Rattle.whole.specs.Twos.{signed, signed-size}
 use Rattle.whole.specs.Refusal.{every, eachBelow}
 use Rattle.whole.specs.RefusalLaws.{not-first, eachBelow-none, eachBelow-more, eachBelow-fails}
+use Rattle.whole.specs.Rows.{row-fits, row-lent, row-next, back-length, back-rest}
 use Rattle.rounding.specs.Tests.{lowPasses, sizePasses}
 use Rattle.rounding.specs.Asks.{LowTests, SizeTests}
 use Rattle.ring.specs.Product.{Poly, turn, turn-low, turn-high, mul}
@@ -26,11 +28,10 @@ use Rattle.sets.specs.declared.Numbers.{Numbers}
 use Rattle.sets.specs.Good.{Good}
 use Rattle.sets.specs.GoodLaws.{q-some}
 use Rattle.records.specs.Layout.{polynomial}
-use Rattle.records.specs.PublicLaws.{row-fits, polynomial-length, polynomial-below}
+use Rattle.records.specs.PublicLaws.{polynomial-length, polynomial-below}
 use Rattle.signing.specs.Attempt.{wPasses}
 use Rattle.signing.specs.Parts.{zWith, wOne, wWith}
 use Rattle.signing.specs.Asks.{Terms, MakesZ, TestsOneW, TestsW}
-use Rattle.signing.proofs.Rows.{next-row, lent-is, back-length, back-rest, same-rest}
 
 -- ---- a signed byte's product by c: at most 128 for each of c's h terms
 
@@ -196,12 +197,15 @@ module _ {set : Numbers} {e old ps : List ℕ} {ss before : List ℤ} (t : Tests
 
   module _ {v : List ℕ} {ec : List ℤ} {i : ℕ} (h : Testing set e old ps ss v ec i) where
     v-lent : take (set .n * i + set .n - set .n * i) (drop (set .n * i) v) ≡ polynomial (set .n) i old
-    v-lent = lent-is (set .n) i v ∙ ap (take (set .n)) (h .rest)
+    v-lent = row-lent (set .n) i v ∙ ap (take (set .n)) (h .rest)
+
+    rest-kept : drop (set .n * i + set .n) v ≡ drop (set .n * i + set .n) old
+    rest-kept = sym (drop-drop (set .n) (set .n * i) v) ∙ ap (drop (set .n)) (h .rest) ∙ drop-drop (set .n) (set .n * i) old
 
     pub testing-asks : i < set .k
         → TestsOneW set (take (set .n * i + set .n - set .n * i) (drop (set .n * i) e)) (take (set .n * i + set .n - set .n * i) (drop (set .n * i) v)) ps ss ec
     testing-asks l =
-        rw (lent-is (set .n) i e, v-lent)
+        rw (row-lent (set .n) i e, v-lent)
         (record {
           fitting = t .fitting;
           e-long = polynomial-length (set .n) (set .k) i e (t .e-long) l;
@@ -214,7 +218,7 @@ module _ {set : Numbers} {e old ps : List ℕ} {ss before : List ℤ} (t : Tests
     same-test : {r : Bool}
         → r ≡ wPasses set (wOne set (take (set .n * i + set .n - set .n * i) (drop (set .n * i) e)) (take (set .n * i + set .n - set .n * i) (drop (set .n * i) v)) (sparse ps ss))
         → r ≡ wPasses set (wWith set e old (sparse ps ss) i)
-    same-test f = rw (lent-is (set .n) i e, v-lent) at f
+    same-test f = rw (row-lent (set .n) i e, v-lent) at f
 
     pub testing-fits : i < set .k → set .n * i + set .n ≤ length v
     testing-fits l = omega (arith, row-fits (set .n) (set .k) i l, h .long, t .v-long)
@@ -225,29 +229,23 @@ module _ {set : Numbers} {e old ps : List ℕ} {ss before : List ℤ} (t : Tests
         → r ≡ true
         → Testing set e old ps ss (take (set .n * i) v ++ (new ++ drop (set .n * i + set .n - set .n * i) (drop (set .n * i) v))) after (i + 1)
     testing-more new after l long room f g =
-        rw size
+        rw (add-sub-cancel-left (set .n * i) (set .n))
         (record {
           near = rw add-one l;
           long = back-length (set .n * i) (set .n) v new (testing-fits l) new-long ∙ h .long;
-          rest = rw (next-row (set .n) i) (back-rest (set .n * i) (set .n) v new (testing-fits l) new-long ∙ same-rest (set .n) i v old (h .rest));
+          rest = rw (row-next (set .n) i) (back-rest (set .n * i) (set .n) v new (testing-fits l) new-long ∙ rest-kept);
           room = room ∙ h .room;
           passed = eachBelow-more (λ j. wPasses set (wWith set e old (sparse ps ss) j)) (h .passed) (sym (same-test f) ∙ g) refl;
         })
       where
-        size : set .n * i + set .n - set .n * i ≡ set .n
-        size = omega arith
-
         new-long : length new ≡ set .n
         new-long = long ∙ ap length v-lent ∙ polynomial-length (set .n) (set .k) i old (t .v-long) l
 
     pub testing-back : (new : List ℕ) → i < set .k
         → length new ≡ length (take (set .n * i + set .n - set .n * i) (drop (set .n * i) v))
         → length (take (set .n * i) v ++ (new ++ drop (set .n * i + set .n - set .n * i) (drop (set .n * i) v))) ≡ length old
-    testing-back new l long = rw size (back-length (set .n * i) (set .n) v new (testing-fits l) new-long ∙ h .long)
+    testing-back new l long = rw (add-sub-cancel-left (set .n * i) (set .n)) (back-length (set .n * i) (set .n) v new (testing-fits l) new-long ∙ h .long)
       where
-        size : set .n * i + set .n - set .n * i ≡ set .n
-        size = omega arith
-
         new-long : length new ≡ set .n
         new-long = long ∙ ap length v-lent ∙ polynomial-length (set .n) (set .k) i old (t .v-long) l
 

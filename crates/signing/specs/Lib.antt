@@ -1,4 +1,5 @@
 pub mod Attempt
+pub mod AttemptLaws
 pub mod Search
 pub mod SearchLaws
 pub mod Sign

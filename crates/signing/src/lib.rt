@@ -45,6 +45,44 @@ pub enum SignAnswer {
     High,
 }
 
+impl SignAnswer {
+    // Document 01's number.
+    pub fn number(self) -> u8
+        ensures { λ r. ⌜ r ≡ signAnswerNumber self ⌝ }
+    {
+        match self {
+            SignAnswer::Signed(_) => 0,
+            SignAnswer::Length => 1,
+            SignAnswer::Mark => 2,
+            SignAnswer::Message => 3,
+            SignAnswer::Budget => 4,
+            SignAnswer::Secret => 5,
+            SignAnswer::SumS => 6,
+            SignAnswer::SumE => 7,
+            SignAnswer::None => 8,
+            SignAnswer::High => 10,
+        }
+    }
+
+    // The counter of the attempt that signed, 0 on refusal.
+    pub fn counter(self) -> u16
+        ensures { λ r. ⌜ r ≡ signAnswerCounter self ⌝ }
+    {
+        match self {
+            SignAnswer::Signed(counter) => counter,
+            SignAnswer::Length => 0,
+            SignAnswer::Mark => 0,
+            SignAnswer::Message => 0,
+            SignAnswer::Budget => 0,
+            SignAnswer::Secret => 0,
+            SignAnswer::SumS => 0,
+            SignAnswer::SumE => 0,
+            SignAnswer::None => 0,
+            SignAnswer::High => 0,
+        }
+    }
+}
+
 // Whether every test passes.
 fn passed(tested: Inputs) -> bool
     ensures { λ r. ⌜ r ≡ eqb (inputsNumber tested) 0 ⌝ }

@@ -1,5 +1,5 @@
 -- The contracts of what the bench calls determine the outputs. Assumes nothing.
-use mathlib.Core.Path.{_≡_, sym, _∙_}
+use mathlib.Core.Path.{sym, _∙_}
 use denote.Ref.{now}
 use Rattle.whole.specs.Determined.{Output}
 use Rattle.speed.proofs.speed_permute.Kinds as permute-kinds

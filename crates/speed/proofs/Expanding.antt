@@ -1,19 +1,19 @@
 -- a_1..a_k are drawn one after another, each into its own stretch of the row. Assumes nothing.
-use mathlib.Core.Path.{_≡_, refl, sym, ap, subst⁻¹, _∙_}
+use mathlib.Core.Path.{_≡_, sym, ap, _∙_}
 use mathlib.Core.List.{List, _++_}
 use Prim.Native.Nat.{ℕ, _+_, _*_, _-_, _≤_, _<_, zero-le}
-use native.Mathlib.Nat.{mul-le-mul, mul-le-mul-left, mul-zero, mul-comm, le-antisymm, le-of-eq}
+use native.Mathlib.Nat.{mul-zero, mul-comm, le-antisymm, add-sub-cancel-left}
 use native.Mathlib.Numerals.{add-one}
 use native.Mathlib.Omega.{arith}
-use lib.ListN.{length, take, drop, length-take}
+use lib.ListN.{length, take, drop}
 use lib.Seq.{take-all, take-add, length-take-le}
 use Rattle.whole.specs.Parts.{part-length}
 use Rattle.whole.specs.Written.{Written, written-none, written-length, written-more, written-all, put-part}
+use Rattle.whole.specs.Rows.{row-fits, row-next}
 use Rattle.sets.specs.declared.Numbers.{Numbers}
-use Rattle.sets.specs.Good.{Good}
 use Rattle.sampling.specs.declared.drawn.DrawA.{DrawA}
 use Rattle.sampling.specs.DrawA.{StartedA, NextA, AfterA}
-use Rattle.sampling.specs.DrawALaws.{AtA, at-first, at-asks, at-written, at-next, few-places}
+use Rattle.sampling.specs.DrawALaws.{AtA, at-first, at-asks, at-written, at-next}
 use Rattle.sampling.specs.Streams.{allA, aOf}
 use Rattle.sampling.specs.StreamsLaws.{allA-length, aOf-length}
 use Rattle.speed.specs.Row.{Row}
@@ -23,13 +23,6 @@ pub record Expanding (set : Numbers) (seed old out : List ℕ) (stream : DrawA) 
   pub near : i ≤ set .k
   pub at : AtA set seed i stream
   pub done : Written (take (set .n * i) (allA set seed)) old out
-
--- stretch i ends within the row, whose length fits a word
-row-fits : (n k : ℕ) {i : ℕ} → i < k → n * i + n ≤ k * n
-row-fits n k l = omega (arith, mul-le-mul-left n l)
-
-pub row-few : {set : Numbers} → Good set → {i : ℕ} → i < set .k → set .n * i + set .n ≤ 255 * 65536
-row-few {set} good l = omega (arith, row-fits (set .n) (set .k) l, mul-le-mul (good .k-few) (few-places set good))
 
 module _ {set : Numbers} {seed old : List ℕ} (row : Row set (length old)) where
   pub expanding-none : {stream : DrawA} → StartedA set seed stream → Expanding set seed old old stream 0
@@ -46,14 +39,10 @@ module _ {set : Numbers} {seed old : List ℕ} (row : Row set (length old)) wher
 
     module _ (l : i < set .k) where
       pub expanding-fits : set .n * i + set .n ≤ length out
-      expanding-fits = omega (arith, row-fits (set .n) (set .k) l, expanding-length, row .long)
-
-      -- the stretch that is lent
-      size : set .n * i + set .n - set .n * i ≡ set .n
-      size = omega arith
+      expanding-fits = omega (arith, row-fits (set .n) (set .k) i l, expanding-length, row .long)
 
       pub expanding-next : NextA set stream (length (take (set .n * i + set .n - set .n * i) (drop (set .n * i) out)))
-      expanding-next = at-asks (h .at) (row .good) l (rw size (part-length (set .n * i) (set .n) out expanding-fits))
+      expanding-next = at-asks (h .at) (row .good) l (rw (add-sub-cancel-left (set .n * i) (set .n)) (part-length (set .n * i) (set .n) out expanding-fits))
 
       pub expanding-more : {new : List ℕ} {after : DrawA} → AfterA set stream new after
           → Expanding set seed old (take (set .n * i) out ++ (new ++ drop (set .n * i + set .n - set .n * i) (drop (set .n * i) out))) after (i + 1)
@@ -62,12 +51,9 @@ module _ {set : Numbers} {seed old : List ℕ} (row : Row set (length old)) wher
           record {
             near = rw add-one l;
             at = at-next (h .at) l d;
-            done = rw (one-more, take-add (set .n * i) (set .n) (allA set seed), ← new-is) next;
+            done = rw (row-next (set .n) i, take-add (set .n * i) (set .n) (allA set seed), ← new-is) next;
           }
         where
-          one-more : set .n * (i + 1) ≡ set .n * i + set .n
-          one-more = omega arith
-
           new-is : new ≡ take (set .n) (drop (set .n * i) (allA set seed))
           new-is = at-written (h .at) d
 
@@ -78,9 +64,9 @@ module _ {set : Numbers} {seed old : List ℕ} (row : Row set (length old)) wher
               (take (set .n * i) out ++ (new ++ drop (set .n * i + set .n - set .n * i) (drop (set .n * i) out)))
           next =
               written-more (h .done) (set .n * i) (set .n) new
-              (sym (length-take-le (set .n * i) (allA set seed) (omega (arith, allA-length set (row .good) seed, row-fits (set .n) (set .k) l)))) new-long
-              (omega (arith, row-fits (set .n) (set .k) l, row .long))
-              (rw size (put-part (set .n * i) (set .n) out new))
+              (sym (length-take-le (set .n * i) (allA set seed) (omega (arith, allA-length set (row .good) seed, row-fits (set .n) (set .k) i l)))) new-long
+              (omega (arith, row-fits (set .n) (set .k) i l, row .long))
+              (rw (add-sub-cancel-left (set .n * i) (set .n)) (put-part (set .n * i) (set .n) out new))
 
     pub expanding-all : set .k ≤ i → out ≡ allA set seed
     expanding-all l = written-all (h .done) (ap length whole ∙ allA-length set (row .good) seed ∙ sym (row .long)) ∙ whole

@@ -2,13 +2,13 @@
 use mathlib.Core.Path.{_≡_, sym, ap, _∙_}
 use mathlib.Core.Bool.{true, false, _&&_}
 use mathlib.Core.List.{List, _++_, append-nil}
-use Prim.Native.Nat.{ℕ, _<_, _≤_}
+use Prim.Native.Nat.{ℕ}
 use native.Mathlib.Nat.{le-of-eq}
 use native.Mathlib.Omega.{arith}
 use lib.Dec.{eqb}
 use lib.ListN.{length, drop, drop-of-length-le}
 use borrow.Author.Tests.{eqb-true}
-use Rattle.whole.specs.Below.{Below, below-more}
+use Rattle.whole.specs.Below.{below-more}
 use Rattle.whole.specs.RefusalLaws.{same-first, same-rest, both-first, both-second}
 use Rattle.packing.specs.Digits.{Packs, Unpacks, packed, unpacked, bytesFor}
 use Rattle.ring.specs.Asks.{Factors}
@@ -16,8 +16,8 @@ use Rattle.ring.specs.Lists.{naturals, residues}
 use Rattle.ring.specs.Product.{mul}
 use Rattle.sets.specs.declared.Numbers.{Numbers}
 use Rattle.sets.specs.Good.{Good}
+use Rattle.sets.specs.GoodLaws.{n-few, q-some}
 use Rattle.records.specs.Layout.{tBytes}
-use Rattle.records.specs.SizeLaws.{n-few}
 use Rattle.records.specs.Public.{tInRange}
 use Rattle.records.specs.PublicLaws.{tInRange-below}
 use Rattle.speed.specs.Polynomial.{packs, packedOne, unpacks, unpackedOne, multiplies, productOne}
@@ -93,7 +93,7 @@ module _ (s : Numbers) (a b out : List ℕ) (good : Good s) (f : multiplies s a 
   one-multiplies =
       record {
         small = omega (arith, good .q-small);
-        some = omega (arith, good .q-large);
+        some = q-some good;
         a-long = same-first (length a) (length out) (eqb (length b) (length out) && (tInRange s a && tInRange s b)) f;
         b-long = same-first (length b) (length out) (tInRange s a && tInRange s b) after-a;
         a-below = tInRange-below s a (both-first (tInRange s a) (tInRange s b) ranges);

@@ -2,7 +2,6 @@
 use sets::Numbers;
 use sets::SetI;
 ghost use mathlib.Core.Path.{_≡_};
-ghost use lib.ListN.{length};
 ghost use Rattle.sets.specs.Good.{Good};
 ghost use Rattle.sets.specs.SetI.{setI};
 ghost use Rattle.speed.specs.Polynomial.{packs, packedOne, unpacks, unpackedOne, multiplies, productOne};

@@ -20,3 +20,9 @@ abbrev pub Output : (n : ℕ) (ps : List (PK n)) (r : RK n) → Out n ps r → {
 Output n ps r Learnt output =
     (κs : Lfts n) (a : Dens κs ps) (x y : resT r κs .Denot) (e f : AtExit (endedOf n ps r) κs)
     → Learnt κs a x e → Learnt κs a y f → output κs e ≡ output κs f
+
+-- two references that come back hold the same: nothing more is promised of them
+abbrev pub Held : (n : ℕ) (ps : List (PK n)) (r : RK n) → Out n ps r → {X : Type 0} → ((κs : Lfts n) → resT r κs .Denot → X) → Type 0
+Held n ps r Learnt held =
+    (κs : Lfts n) (a : Dens κs ps) (x y : resT r κs .Denot) (e f : AtExit (endedOf n ps r) κs)
+    → Learnt κs a x e → Learnt κs a y f → held κs x ≡ held κs y

@@ -22,6 +22,9 @@ lt-or-le a b = go (decLt a b)
     go (yes h) = inl h
     go (no h) = inr (omega (arith, h))
 
+pub less-one : (k : ℕ) → suc k - 1 ≡ k
+less-one k = omega arith
+
 abbrev pub up : ℤ → ℕ
 up (pos n) = n
 up (negsuc n) = 0

@@ -2,12 +2,14 @@ pub mod Int
 pub mod Residue
 pub mod Sum
 pub mod Parts
+pub mod Rows
 pub mod Written
 pub mod Table
 pub mod Fill
 pub mod Below
 pub mod Bits
 pub mod Twos
+pub mod Words
 pub mod Refusal
 pub mod RefusalLaws
 pub mod Determined

@@ -1,6 +1,7 @@
 -- Laws of tests in a row and of the answer that they give.
 --     answer-pass, answer-fail      a first test that passes, and one that does not
 --     answer-first, answer-rest     where the answer is 0 the first test passes, and so do the others
+--     answer-before                 a refusal is the answer, whatever follows it
 --     after-done, after-refused, output-new, output-kept      an output after the answer 0, and after any other
 --     every-at, every-all           what `every` says of each place
 --     every-append, every-joined    lists in a row
@@ -9,7 +10,7 @@
 --     both, both-first, both-second, and-pass, not-first, not-second      && of two tests
 --     and-same, and-differs, same-first, same-rest      && of an equation and other tests
 -- Assumes nothing.
-use mathlib.Core.Path.{_≡_, refl, sym, ap, _∙_, subst}
+use mathlib.Core.Path.{_≡_, refl, sym, ap, _∙_}
 use mathlib.Core.Bool.{Bool, true, false, _&&_, true≢false, and-assoc, and-false, cond}
 use mathlib.Core.List.{List, [], _∷_, _++_, map}
 use mathlib.Core.Logic.{⊎-elim}
@@ -85,6 +86,16 @@ unfolding answer
 answer-rest true number ts e = e
 answer-rest false number ts e = absurd (omega arith)
 
+-- a refusal among the first tests is the answer, whatever follows them
+pub answer-before : (m : ℕ) (xs ys : List Test) → answer xs ≡ suc m → answer (xs ++ ys) ≡ suc m
+unfolding answer
+answer-before m [] ys e = absurd (omega arith)
+answer-before m (x ∷ xs) ys e = go (answer-before m xs ys) (x .passes) e
+  where
+    go : (answer xs ≡ suc m → answer (xs ++ ys) ≡ suc m) → (b : Bool) → cond b (answer xs) (x .number) ≡ suc m → cond b (answer (xs ++ ys)) (x .number) ≡ suc m
+    go rest true h = rest h
+    go rest false h = h
+
 -- ---- each of p 0, .., p (k − 1)
 
 pub eachBelow-none : (p : ℕ → Bool) → eachBelow 0 p ≡ true
@@ -117,6 +128,14 @@ eachBelow-fails k i p l e = go (eachBelow k p) refl
     go : (b : Bool) → eachBelow k p ≡ b → eachBelow k p ≡ false
     go true f = absurd (true≢false (sym (eachBelow-at k i p f l) ∙ e))
     go false f = f
+
+-- tests that say the same
+pub eachBelow-ext : (k : ℕ) (p r : ℕ → Bool) → ((i : ℕ) → i < k → p i ≡ r i) → eachBelow k p ≡ eachBelow k r
+unfolding eachBelow
+eachBelow-ext zero p r h = refl
+eachBelow-ext (suc k) p r h = rw (eachBelow-ext k p r (λ i l. h i (omega arith)), h k (omega arith))
+
+-- ---- an output
 
 module _ {A : Type 0} where
   pub after-done : {number : ℕ} (new old : A) → number ≡ 0 → after number new old ≡ new

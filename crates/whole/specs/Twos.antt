@@ -9,7 +9,7 @@ use native.Mathlib.Omega.{arith}
 use lib.Dec.{ltb}
 use lib.IntN.{ℤ, pos, negsuc, negℤ, natAbs, _+ℤ_, _-ℤ_}
 use borrow.Author.Tests.{lt-ltb, le-ltb}
-use Rattle.whole.specs.Int.{up, down, int, minus-is, abs-is, one-part, lt-or-le}
+use Rattle.whole.specs.Int.{up, down, int, minus-is, abs-is, one-part, lt-or-le, less-one}
 use Rattle.whole.specs.Residue.{residue, residue-is, residue-small, Same}
 
 -- b bits with the value x: x itself below 2^(b − 1), and x − 2^b from there on
@@ -28,9 +28,6 @@ pub record InBits (b : ℕ) (z : ℤ) : Type 0 where
 pub halves : (b : ℕ) → 0 < b → 2 ^ b ≡ 2 * 2 ^ (b - 1)
 halves zero h = absurd (omega arith)
 halves (suc b) h = rw (less-one b) (pow-succ' 2 b)
-  where
-    less-one : (k : ℕ) → suc k - 1 ≡ k
-    less-one k = omega arith
 
 pub signed-low : (b x : ℕ) → x < 2 ^ (b - 1) → signed b x ≡ pos x
 unfolding signed

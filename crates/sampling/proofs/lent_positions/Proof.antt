@@ -1,10 +1,10 @@
 -- `lent_positions` meets its contract. Assumes nothing.
 use mathlib.Core.Path.{_≡_}
-use Prim.Native.Nat.{_^_, _≤_}
+use Prim.Native.Nat.{_≤_}
 use native.Mathlib.Omega.{arith}
 use lib.ListN.{length}
-use lib.Pow.{pow-mono}
 use borrow.Author.Needs.{needs}
+use Rattle.sets.specs.GoodLaws.{n-few}
 use Rattle.sampling.specs.Positions.{drawnCandidates, positionsOf, signsOf}
 use Rattle.sampling.specs.PositionsLaws.{drawn-length}
 use Rattle.sampling.specs.Lent.{lentEnc}
@@ -36,8 +36,7 @@ returns-3 c =
 cast-positions-stretch : tie.Need-cast-positions-stretch
 cast-positions-stretch c =
     let start = c .before .before .before .before .before .before .before in
-    let few : 2 ^ (start .args .set .«position_bits») ≤ 2 ^ 16 = pow-mono (start .pre .position-fits) in
-    omega (arith, start .pre .n-power)
+    omega (arith, n-few (start .pre))
 
 positions-stretch-requires : tie.Need-positions-stretch-requires
 positions-stretch-requires c κs = search needs

@@ -4,7 +4,6 @@ use mathlib.Core.Path.{_≡_, ap, sym, _∙_}
 use Prim.Native.Nat.{ℕ}
 use borrow.Author.Tests.{ne-eqb}
 use borrow.Author.Needs.{needs}
-use Rattle.shake.specs.declared.Sponge.{Sponge}
 use Rattle.cases.specs.declared.Number.the-variants.{Is}
 use Rattle.cases.specs.Input.{byteAt}
 use Rattle.shake_vectors.specs.declared.Turn.{Turn}

@@ -3,7 +3,8 @@
 -- Assumes nothing.
 use Prim.Native.Nat.{_-_}
 use native.Mathlib.Omega.{arith}
-use Rattle.speed.proofs.Expanding.{Expanding, row-few, expanding-none, expanding-length, expanding-fits, expanding-next, expanding-more, expanding-all}
+use Rattle.sets.specs.GoodLaws.{row-inside}
+use Rattle.speed.proofs.Expanding.{Expanding, expanding-none, expanding-length, expanding-fits, expanding-next, expanding-more, expanding-all}
 use Rattle.speed.proofs.expand.Statement.{statement}
 use Rattle.speed.proofs.expand.Tie as tie
 
@@ -20,13 +21,13 @@ loop-holds : tie.Need-loop-holds Inv-loop μ-loop
 loop-holds c = expanding-none (c .before .before .before .pre) (c .start-a .ensures)
 
 mul-start : tie.Need-mul-start Inv-loop μ-loop
-mul-start c = omega (arith, row-few (c .before .before .before .before .before .pre .good) (c .loop-test .taken))
+mul-start c = omega (arith, row-inside (c .before .before .before .before .before .pre .good) (c .loop-test .taken))
 
 add-end : tie.Need-add-end Inv-loop μ-loop
-add-end c = omega (arith, row-few (c .before .before .before .before .before .pre .good) (c .loop-test .taken))
+add-end c = omega (arith, row-inside (c .before .before .before .before .before .pre .good) (c .loop-test .taken))
 
 mul-next-a : tie.Need-mul-next-a Inv-loop μ-loop
-mul-next-a c = omega (arith, row-few (c .before .before .before .before .before .pre .good) (c .loop-test .taken))
+mul-next-a c = omega (arith, row-inside (c .before .before .before .before .before .pre .good) (c .loop-test .taken))
 
 sub-next-a : tie.Need-sub-next-a Inv-loop μ-loop
 sub-next-a c = omega arith

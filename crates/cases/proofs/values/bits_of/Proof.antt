@@ -1,7 +1,6 @@
 -- `bits_of` meets its contract: 2^32 goes on the value, and the remainder by 2^32 is taken.
 -- Assumes nothing.
 use borrow.Author.Needs.{needs}
-use native.Mathlib.Omega.{arith}
 use lib.Dec.{lit≤}
 use mir.Syntax.{w32, w64}
 use Rattle.cases.proofs.Raised.{Raises, wide, sum-fits, sum-cast, sum-bits}

@@ -1,7 +1,6 @@
 -- `byte_bits` meets its contract: 2^8 goes on the value, and the remainder by 2^8 is taken.
 -- Assumes nothing.
 use borrow.Author.Needs.{needs}
-use native.Mathlib.Omega.{arith}
 use lib.Dec.{lit≤}
 use mir.Syntax.{w8, w16}
 use Rattle.cases.proofs.Raised.{Raises, wide, sum-fits, sum-cast, sum-bits}

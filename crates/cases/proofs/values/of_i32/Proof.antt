@@ -1,6 +1,6 @@
 -- `of_i32` meets its contract. The loop's invariant: the first j bytes stand in the output. The measure is the number of bytes left.
 -- Assumes nothing.
-use mathlib.Core.Path.{_≡_, refl, sym, ap, _∙_}
+use mathlib.Core.Path.{_≡_, sym, ap, _∙_}
 use mathlib.Core.List.{List, map}
 use Prim.Native.Nat.{ℕ, _*_, _-_, _/_, _%_}
 use native.Mathlib.Omega.{arith}

@@ -4,7 +4,7 @@ use borrow.Author.Tests.{eq-eqb}
 use mathlib.Core.Path.{sym, ap, _∙_}
 use native.Mathlib.Omega.{arith}
 use lib.Dec.{eqb}
-use Rattle.records.specs.SizeLaws.{row-few}
+use Rattle.sets.specs.GoodLaws.{row-few}
 use Rattle.keys.proofs.AnswerLaws.{second-decides, s-unlike, e-unlike, seedA-unlike, seedY-unlike, public-unlike}
 use Rattle.keys.proofs.tests.lengths.Statement.{statement}
 use Rattle.keys.proofs.tests.lengths.Tie as tie

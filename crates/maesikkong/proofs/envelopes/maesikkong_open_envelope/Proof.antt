@@ -10,28 +10,28 @@ use Rattle.maesikkong.proofs.envelopes.maesikkong_open_envelope.Tie as 
 open-requires : tie.Need-open-requires
 open-requires c κs = search needs
 
-opened-number-requires : tie.Need-opened-number-requires
-opened-number-requires c κs = search needs
+number-requires : tie.Need-number-requires
+number-requires c κs = search needs
 
-opened-team-requires : tie.Need-opened-team-requires
-opened-team-requires c κs = search needs
+team-requires : tie.Need-team-requires
+team-requires c κs = search needs
 
 start-with-requires : tie.Need-start-with-requires
 start-with-requires c κs = search needs
 
-opened-len-requires : tie.Need-opened-len-requires
-opened-len-requires c κs = search needs
+len-requires : tie.Need-len-requires
+len-requires c κs = search needs
 
 returns : tie.Need-returns
 returns c =
     let answers = c .before .before .before .before .open .ensures in
-    let number = c .before .before .before .opened-number .ensures ∙ answers .0 in (
-      number,
+    let number-is = c .before .before .before .number .ensures ∙ answers .0 in (
+      number-is,
       (
-        c .before .before .opened-team .ensures ∙ answers .1 .0,
+        c .before .before .team .ensures ∙ answers .1 .0,
         (
-          c .before .start-with .ensures ∙ ap (λ (n : ℕ). after n headBytes 0) number,
-          c .opened-len .ensures ∙ answers .1 .1,
+          c .before .start-with .ensures ∙ ap (λ (n : ℕ). after n headBytes 0) number-is,
+          c .len .ensures ∙ answers .1 .1,
         ),
       ),
     )
@@ -39,4 +39,4 @@ returns c =
 pub maesikkong-open-envelope-spec : {M : Type 1} → statement M
 maesikkong-open-envelope-spec =
     tie.close
-    (tie.spec open-requires opened-number-requires opened-team-requires start-with-requires opened-len-requires returns)
+    (tie.spec open-requires number-requires team-requires start-with-requires len-requires returns)

@@ -10,28 +10,28 @@ use Rattle.maesikkong.proofs.envelopes.maesikkong_read_envelope.Tie as 
 read-requires : tie.Need-read-requires
 read-requires c κs = search needs
 
-read-number-requires : tie.Need-read-number-requires
-read-number-requires c κs = search needs
+number-requires : tie.Need-number-requires
+number-requires c κs = search needs
 
-read-team-requires : tie.Need-read-team-requires
-read-team-requires c κs = search needs
+team-requires : tie.Need-team-requires
+team-requires c κs = search needs
 
 start-with-requires : tie.Need-start-with-requires
 start-with-requires c κs = search needs
 
-read-len-requires : tie.Need-read-len-requires
-read-len-requires c κs = search needs
+len-requires : tie.Need-len-requires
+len-requires c κs = search needs
 
 returns : tie.Need-returns
 returns c =
     let answers = c .before .before .before .before .read .ensures in
-    let number = c .before .before .before .read-number .ensures ∙ answers .0 in (
-      number,
+    let number-is = c .before .before .before .number .ensures ∙ answers .0 in (
+      number-is,
       (
-        c .before .before .read-team .ensures ∙ answers .1 .0,
+        c .before .before .team .ensures ∙ answers .1 .0,
         (
-          c .before .start-with .ensures ∙ ap (λ (n : ℕ). after n headBytes 0) number,
-          c .read-len .ensures ∙ answers .1 .1,
+          c .before .start-with .ensures ∙ ap (λ (n : ℕ). after n headBytes 0) number-is,
+          c .len .ensures ∙ answers .1 .1,
         ),
       ),
     )
@@ -39,4 +39,4 @@ returns c =
 pub maesikkong-read-envelope-spec : {M : Type 1} → statement M
 maesikkong-read-envelope-spec =
     tie.close
-    (tie.spec read-requires read-number-requires read-team-requires start-with-requires read-len-requires returns)
+    (tie.spec read-requires number-requires team-requires start-with-requires len-requires returns)

@@ -7,8 +7,8 @@ use Rattle.maesikkong.proofs.sign.maesikkong_sign.Tie as tie
 sign-requires : tie.Need-sign-requires
 sign-requires c κs = search needs
 
-counter-of-requires : tie.Need-counter-of-requires
-counter-of-requires c κs = search needs
+counter-requires : tie.Need-counter-requires
+counter-requires c κs = search needs
 
 number-requires : tie.Need-number-requires
 number-requires c κs = search needs
@@ -19,8 +19,8 @@ same-length c = search needs
 returns : tie.Need-returns
 returns c =
     let signs = c .before .before .before .before .sign .ensures in
-    (c .number .ensures ∙ signs .0, (c .before .counter-of .ensures ∙ signs .1 .0, signs .1 .1))
+    (c .number .ensures ∙ signs .0, (c .before .counter .ensures ∙ signs .1 .0, signs .1 .1))
 
 pub maesikkong-sign-spec : {M : Type 1} → statement M
 maesikkong-sign-spec =
-    tie.close (tie.spec sign-requires counter-of-requires number-requires same-length returns)
+    tie.close (tie.spec sign-requires counter-requires number-requires same-length returns)

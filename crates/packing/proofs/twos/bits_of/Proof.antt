@@ -7,7 +7,8 @@ use borrow.Author.Needs.{needs}
 use mir.Syntax.{w64}
 use mir.Val.{SFits}
 use mir.Facts.{toZ-ofZ}
-use Rattle.packing.proofs.Signs.{fits-i64, twos-fits, raised, kept}
+use Rattle.whole.specs.Words.{wide-i32}
+use Rattle.packing.proofs.Signs.{fits-i32, twos-fits, raised, kept}
 use Rattle.packing.proofs.twos.bits_of.Statement.{statement}
 use Rattle.packing.proofs.twos.bits_of.Tie as tie
 
@@ -18,7 +19,7 @@ shl-result : tie.Need-shl-result
 shl-result c = search needs
 
 cast-result-2 : tie.Need-cast-result-2
-cast-result-2 c = fits-i64 (c .before .pre)
+cast-result-2 c = wide-i32 (fits-i32 (c .before .pre .0 .1) (c .before .pre .1))
 
 add-result : tie.Need-add-result
 add-result c = subst⁻¹ (SFits w64) (raised (c .before .pre) (c .if1 .taken)) (record { sfits = omega (arith, twos-fits (c .before .pre)) })

@@ -1,10 +1,10 @@
 -- `records::public::lengths` meets its contract. Assumes nothing.
 use native.Mathlib.Omega.{arith}
-use Rattle.records.specs.SizeLaws.{row-few}
 use mathlib.Core.Path.{ap}
 use lib.Dec.{eqb}
 use Rattle.whole.specs.RefusalLaws.{and-same, and-differs}
 use borrow.Author.Needs.{needs}
+use Rattle.sets.specs.GoodLaws.{row-few}
 use Rattle.records.proofs.public.lengths.Statement.{statement}
 use Rattle.records.proofs.public.lengths.Tie as tie
 

@@ -1,6 +1,6 @@
 -- `records::public::pack_t` meets its contract. Assumes nothing.
 use native.Mathlib.Omega.{arith}
-use Rattle.records.proofs.PublicSteps.{read-fits, read-unpacks, read-is, write-fits, write-packs, write-is}
+use Rattle.records.proofs.PublicSteps.{write-fits, write-packs, write-is}
 use borrow.Author.Needs.{needs}
 use Rattle.records.proofs.public.pack_t.Statement.{statement}
 use Rattle.records.proofs.public.pack_t.Tie as tie

@@ -1,5 +1,4 @@
 -- `records::public::read` meets its contract. Assumes nothing.
-use mathlib.Core.Path.{sym, _∙_}
 use Rattle.whole.specs.RefusalLaws.{output-new}
 use Rattle.records.proofs.AnswerLaws.{kept, done-number}
 use Rattle.records.proofs.PublicSteps.{read-takes}

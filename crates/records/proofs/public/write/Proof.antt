@@ -1,6 +1,5 @@
 -- `records::public::write` meets its contract. Assumes nothing.
 use borrow.Author.Tests.{not-true, not-false}
-use mathlib.Core.Path.{sym, _∙_}
 use Rattle.whole.specs.RefusalLaws.{output-new, output-kept}
 use Rattle.records.proofs.PublicSteps.{write-puts}
 use Rattle.records.proofs.AnswerLaws.{write-length, write-value, write-passes}

@@ -1,7 +1,7 @@
 -- `records::secret::e_start` meets its contract. Assumes nothing.
 use native.Mathlib.Omega.{arith}
-use Rattle.records.specs.SizeLaws.{n-few, row-few}
 use borrow.Author.Needs.{needs}
+use Rattle.sets.specs.GoodLaws.{n-few}
 use Rattle.records.proofs.secret.e_start.Statement.{statement}
 use Rattle.records.proofs.secret.e_start.Tie as tie
 

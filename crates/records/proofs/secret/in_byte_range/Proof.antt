@@ -1,9 +1,9 @@
 -- `records::secret::in_byte_range` meets its contract. The loop's invariant: no byte before i is −128. Assumes nothing.
 use native.Mathlib.Omega.{arith}
-use Prim.Native.Nat.{_+_, _*_, _-_}
+use Prim.Native.Nat.{_-_}
 use lib.ListN.{length}
-use Rattle.whole.specs.RefusalLaws.{output-new, output-kept, and-same, and-differs, passing-none}
-use Rattle.records.proofs.SecretSteps.{Testing, testing-more, testing-fails, testing-all, range-both, range-first, range-values, lengths-read, lengths-own, read-takes, takes-values, takes-tail, take-s, take-e, take-seedA, take-seedY, take-g, put-tail-is, put-is, write-puts}
+use Rattle.whole.specs.RefusalLaws.{passing-none}
+use Rattle.records.proofs.SecretSteps.{Testing, testing-more, testing-fails, testing-all}
 use Rattle.records.proofs.secret.in_byte_range.Statement.{statement}
 use Rattle.records.proofs.secret.in_byte_range.Tie as tie
 

@@ -1,10 +1,10 @@
 -- `records::secret::lengths` meets its contract. Assumes nothing.
 use native.Mathlib.Omega.{arith}
-use Rattle.records.specs.SizeLaws.{n-few, row-few}
-use Rattle.whole.specs.RefusalLaws.{output-new, output-kept, and-same, and-differs, passing-none}
-use mathlib.Core.Path.{sym, ap, _∙_}
+use Rattle.whole.specs.RefusalLaws.{and-same, and-differs}
+use mathlib.Core.Path.{ap}
 use lib.Dec.{eqb}
 use borrow.Author.Needs.{needs}
+use Rattle.sets.specs.GoodLaws.{row-few}
 use Rattle.records.proofs.secret.lengths.Statement.{statement}
 use Rattle.records.proofs.secret.lengths.Tie as tie
 

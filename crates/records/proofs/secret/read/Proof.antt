@@ -1,8 +1,7 @@
 -- `records::secret::read` meets its contract. Assumes nothing.
-use mathlib.Core.Path.{sym, ap, _∙_}
-use Rattle.whole.specs.RefusalLaws.{output-new, output-kept, and-same, and-differs, passing-none}
-use Rattle.records.proofs.AnswerLaws.{kept, done-number, record-length, record-mark, record-value, record-passes, read-length, read-record, write-length, write-value, write-passes}
-use Rattle.records.proofs.SecretSteps.{Testing, testing-more, testing-fails, testing-all, range-both, range-first, range-values, lengths-read, lengths-own, read-takes, takes-values, takes-tail, take-s, take-e, take-seedA, take-seedY, take-g, put-tail-is, put-is, write-puts}
+use Rattle.whole.specs.RefusalLaws.{output-new}
+use Rattle.records.proofs.AnswerLaws.{kept, done-number}
+use Rattle.records.proofs.SecretSteps.{read-takes, takes-values, takes-tail}
 use borrow.Author.Needs.{needs}
 use Rattle.records.specs.SecretPlaces.{TakesSecret}
 use Rattle.records.proofs.secret.read.Statement.{statement}

@@ -1,5 +1,5 @@
 -- `records::secret::take_tail` meets its contract. Assumes nothing.
-use Rattle.records.proofs.SecretSteps.{range-values, take-seedA, take-seedY, take-g, put-tail-is}
+use Rattle.records.proofs.SecretSteps.{take-seedA, take-seedY, take-g}
 use borrow.Author.Needs.{needs}
 use Rattle.records.proofs.secret.take_tail.Statement.{statement}
 use Rattle.records.proofs.secret.take_tail.Tie as tie

@@ -1,5 +1,5 @@
 -- `records::secret::take_values` meets its contract. Assumes nothing.
-use Rattle.records.proofs.SecretSteps.{Testing, testing-more, testing-fails, testing-all, range-both, range-first, range-values, lengths-read, lengths-own, read-takes, takes-values, takes-tail, take-s, take-e, take-seedA, take-seedY, take-g, put-tail-is, put-is, write-puts}
+use Rattle.records.proofs.SecretSteps.{take-s, take-e}
 use borrow.Author.Needs.{needs}
 use Rattle.records.proofs.secret.take_values.Statement.{statement}
 use Rattle.records.proofs.secret.take_values.Tie as tie

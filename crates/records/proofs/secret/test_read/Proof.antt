@@ -1,9 +1,9 @@
 -- `records::secret::test_read` meets its contract. Assumes nothing.
 use borrow.Author.Tests.{not-true, not-false}
-use Rattle.records.proofs.AnswerLaws.{kept, done-number, record-length, record-mark, record-value, record-passes, read-length, read-record, write-length, write-value, write-passes}
-use Rattle.records.specs.Secret.{secretTests, readSecretTests, writeSecretTests}
+use Rattle.records.proofs.AnswerLaws.{read-length, read-record}
+use Rattle.records.specs.Secret.{secretTests, readSecretTests}
 use lib.ListN.{length}
-use Rattle.records.proofs.SecretSteps.{Testing, testing-more, testing-fails, testing-all, range-both, range-first, range-values, lengths-read, lengths-own, read-takes, takes-values, takes-tail, take-s, take-e, take-seedA, take-seedY, take-g, put-tail-is, put-is, write-puts}
+use Rattle.records.proofs.SecretSteps.{lengths-read, lengths-own}
 use borrow.Author.Needs.{needs}
 use Rattle.records.proofs.secret.test_read.Statement.{statement}
 use Rattle.records.proofs.secret.test_read.Tie as tie

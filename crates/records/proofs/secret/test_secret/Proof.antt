@@ -1,7 +1,7 @@
 -- `records::secret::test_secret` meets its contract. Assumes nothing.
 use borrow.Author.Tests.{not-true, not-false}
-use Rattle.records.proofs.AnswerLaws.{kept, done-number, record-length, record-mark, record-value, record-passes, read-length, read-record, write-length, write-value, write-passes}
-use Rattle.records.specs.Secret.{secretTests, readSecretTests, writeSecretTests}
+use Rattle.records.proofs.AnswerLaws.{record-length, record-mark, record-value, record-passes}
+use Rattle.records.specs.Secret.{secretTests}
 use borrow.Author.Needs.{needs}
 use Rattle.records.proofs.secret.test_secret.Statement.{statement}
 use Rattle.records.proofs.secret.test_secret.Tie as tie

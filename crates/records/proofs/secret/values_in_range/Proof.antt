@@ -1,5 +1,5 @@
 -- `records::secret::values_in_range` meets its contract. Assumes nothing.
-use Rattle.records.proofs.SecretSteps.{range-values, take-seedA, take-seedY, take-g, put-tail-is}
+use Rattle.records.proofs.SecretSteps.{range-values}
 use borrow.Author.Needs.{needs}
 use Rattle.records.proofs.secret.values_in_range.Statement.{statement}
 use Rattle.records.proofs.secret.values_in_range.Tie as tie

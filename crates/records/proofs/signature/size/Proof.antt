@@ -8,12 +8,13 @@ use mir.Syntax.{w64}
 use mir.Val.{SFits}
 use mir.Facts.{toZ-ofZ}
 use Rattle.whole.specs.Int.{int}
-use Rattle.records.proofs.SignatureSizes.{z-wide, size-fits, size-below, size-above}
+use Rattle.whole.specs.Words.{wide-i32}
+use Rattle.records.proofs.SignatureSizes.{size-fits, size-below, size-above}
 use Rattle.records.proofs.signature.size.Statement.{statement}
 use Rattle.records.proofs.signature.size.Tie as tie
 
 cast-result : tie.Need-cast-result
-cast-result c = z-wide (c .before .fits .z)
+cast-result c = wide-i32 (c .before .fits .z)
 
 sub-result : tie.Need-sub-result
 sub-result c =

@@ -7,12 +7,13 @@ use lib.IntN.{natAbs, ℤ}
 use mir.Syntax.{w64}
 use mir.Val.{SFits}
 use mir.Facts.{toZ-ofZ}
-use Rattle.rounding.proofs.Bytes.{fits-i64, raised-is, raised-fits, raised-byte}
+use Rattle.whole.specs.Words.{wide-i32}
+use Rattle.rounding.proofs.Bytes.{raised-is, raised-fits, raised-byte}
 use Rattle.rounding.proofs.polynomial.byte_of.Statement.{statement}
 use Rattle.rounding.proofs.polynomial.byte_of.Tie as tie
 
 cast-result : tie.Need-cast-result
-cast-result c = fits-i64 (c .fits .h)
+cast-result c = wide-i32 (c .fits .h)
 
 add-result : tie.Need-add-result
 add-result c = subst⁻¹ (SFits w64) (raised-is (c .fits .h)) (record { sfits = omega (arith, raised-fits (c .fits .h)) })

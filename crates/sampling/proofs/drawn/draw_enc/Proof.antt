@@ -6,7 +6,7 @@ use Rattle.shake.specs.declared.Sponge.{Sponge}
 use Rattle.shake.specs.Sponge.{absorbed}
 use Rattle.sampling.specs.Streams.{encOf}
 use Rattle.sampling.specs.SpongeLaws.{stream-squeezed, bytes-below}
-use Rattle.sampling.specs.DrawALaws.{few-places}
+use Rattle.sets.specs.GoodLaws.{n-few}
 use borrow.Author.Needs.{needs}
 use Rattle.sampling.proofs.drawn.draw_enc.Statement.{statement}
 use Rattle.sampling.proofs.drawn.draw_enc.Tie as tie
@@ -20,7 +20,7 @@ absorb-requires c κs = search needs
 cast-draw-positions : tie.Need-cast-draw-positions
 cast-draw-positions c =
     let start = c .before .before .before .before .before in
-    record { fits = omega (arith, few-places (start .args .set) (start .pre .good)) }
+    record { fits = omega (arith, n-few (start .pre .good)) }
 
 draw-positions-requires : tie.Need-draw-positions-requires
 draw-positions-requires c κs = search needs

@@ -4,8 +4,8 @@ use mathlib.Core.Path.{sym, _∙_}
 use Prim.Native.Nat.{_-_}
 use native.Mathlib.Omega.{arith}
 use borrow.Author.Needs.{needs}
-use Rattle.records.specs.PublicLaws.{row-fits}
-use Rattle.signing.proofs.Rows.{row-inside}
+use Rattle.sets.specs.GoodLaws.{row-inside}
+use Rattle.whole.specs.Rows.{row-fits}
 use Rattle.signing.proofs.HighSteps.{Absorbing, absorbing-none, absorbing-asks, absorbing-more, absorbing-all}
 use Rattle.signing.proofs.attempt.absorb_highs.Statement.{statement}
 use Rattle.signing.proofs.attempt.absorb_highs.Tie as tie

@@ -3,7 +3,7 @@
 use Prim.Native.Nat.{_-_}
 use native.Mathlib.Omega.{arith}
 use mathlib.Core.Path.{sym, _∙_}
-use Rattle.signing.proofs.Rows.{row-inside}
+use Rattle.sets.specs.GoodLaws.{row-inside}
 use Rattle.signing.proofs.ProductSteps.{Multiplying, multiplying-none, multiplying-next, multiplying-fits, multiplying-factors, multiplying-more, multiplying-length, multiplying-all}
 use Rattle.signing.proofs.attempt.products.Statement.{statement}
 use Rattle.signing.proofs.attempt.products.Tie as tie

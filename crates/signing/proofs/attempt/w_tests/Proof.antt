@@ -2,10 +2,10 @@
 -- measure is the number of those left. Assumes nothing.
 use borrow.Author.Tests.{not-true, not-false}
 use mathlib.Core.Path.{sym, _∙_}
-use Rattle.records.specs.PublicLaws.{row-fits}
 use Prim.Native.Nat.{_-_}
 use native.Mathlib.Omega.{arith}
-use Rattle.signing.proofs.Rows.{row-inside}
+use Rattle.sets.specs.GoodLaws.{row-inside}
+use Rattle.whole.specs.Rows.{row-fits}
 use Rattle.signing.proofs.TestSteps.{Testing, testing-none, testing-asks, testing-fits, testing-more, testing-back, testing-fails, testing-all}
 use Rattle.signing.proofs.attempt.w_tests.Statement.{statement}
 use Rattle.signing.proofs.attempt.w_tests.Tie as tie
