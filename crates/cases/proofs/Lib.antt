@@ -1,2 +1,1 @@
-pub mod Raised
 pub mod Determined

@@ -9,8 +9,7 @@
 use mathlib.Core.Path.{_≡_, refl, sym, ap, ap₂, _∙_}
 use mathlib.Core.Bool.{Bool, true, false}
 use mathlib.Core.List.{List, [], _∷_, _++_}
-use Prim.Native.Nat.{ℕ, suc, _+_, _*_, _-_, _≤_, _<_}
-use native.Mathlib.Nat.{mul-le-mul}
+use Prim.Native.Nat.{ℕ, suc, _+_, _-_, _≤_, _<_}
 use native.Mathlib.Omega.{arith}
 use lib.Dec.{eqb}
 use lib.ListN.{length}
@@ -18,17 +17,18 @@ use types.Run.{OneOf, miss}
 use denote.Enum.Declared.{tagOf}
 use borrow.Author.Tests.{eq-eqb, ne-eqb, eqb-true, eqb-false, le-leb, lt-leb}
 use Rattle.whole.specs.Parts.{part-length}
-use Rattle.whole.specs.Refusal.{Test, _orElse_, answer, after}
-use Rattle.whole.specs.RefusalLaws.{answer-pass, answer-fail, answer-none, answer-first, answer-rest, answer-before, after-done, after-refused, output-new, output-kept}
+use Rattle.whole.specs.Refusal.{Test, _orElse_, answer, after, every}
+use Rattle.whole.specs.RefusalLaws.{answer-pass, answer-fail, answer-none, answer-before, after-done, after-refused, output-new, output-kept, answer-past}
 use Rattle.sets.specs.declared.Numbers.{Numbers}
 use Rattle.sets.specs.Good.{Good}
 use Rattle.sets.specs.Limits.{messageLimit}
-use Rattle.sets.specs.GoodLaws.{n-few}
 use Rattle.records.specs.Layout.{marked, signatureBytes}
+use Rattle.records.specs.SizeLaws.{z-bits-few}
 use Rattle.envelope.specs.declared.ReadEnvelope.{ReadEnvelope}
 use Rattle.envelope.specs.declared.ReadEnvelope.the-variants.{Parts, Length, Mark, Message, Z}
 use Rattle.envelope.specs.Answers.{readEnvelopeNumber, readEnvelopeTeam, readEnvelopeLength}
 use Rattle.envelope.specs.Envelope.{headBytes, envelopeBytes, teamOf, lengthOf, signatureOf, headTests, teamAnswered}
+use Rattle.envelope.specs.EnvelopeLaws.{envelope-total}
 use Rattle.envelope.proofs.ReadEnvelope.{the-type}
 
 -- ---- the total
@@ -46,10 +46,7 @@ module _ (s : Numbers) (len total : ℕ) {size : ℕ} (size-is : size ≡ signat
 
 -- a signature record is short enough for the head to stand before it
 pub size-few : {s : Numbers} {size : ℕ} → Good s → size ≡ signatureBytes s → size ≤ 262178
-size-few {s} good e = omega (arith, bits)
-  where
-    bits : s .«z_bits» * s .n ≤ 2097152
-    bits = mul-le-mul (good .z-word) (n-few good)
+size-few {s} good e = omega (arith, z-bits-few good)
 
 -- ---- the tests
 
@@ -144,21 +141,13 @@ head-parts {s} {envelope} {r} {team} {len} e p =
 
 module _ {s : Numbers} {envelope : List ℕ} {team len : ℕ} (h : Headed s envelope team len) where
   goes-on : (ts : List Test) → answer (headTests s envelope ++ ts) ≡ answer ts
-  unfolding headTests
-  goes-on ts =
-      answer-pass 1 _ (answer-first _ 0 _ (h .passed))
-      ∙ answer-pass 2 _ (answer-first _ 1 _ (answer-rest _ 0 _ (h .passed)))
-      ∙ answer-pass 3 _ (answer-first _ 2 _ (answer-rest _ 1 _ (answer-rest _ 0 _ (h .passed))))
-      ∙ answer-pass 1 _ (answer-first _ 0 _ (answer-rest _ 2 _ (answer-rest _ 1 _ (answer-rest _ 0 _ (h .passed)))))
-
-  pub total : length envelope ≡ envelopeBytes s (lengthOf envelope)
-  unfolding headTests
-  total = eqb-true _ _ (answer-first _ 0 _ (answer-rest _ 2 _ (answer-rest _ 1 _ (answer-rest _ 0 _ (h .passed)))))
+  unfolding headTests every
+  goes-on ts = answer-past (headTests s envelope) ts refl (h .passed)
 
   -- the signature record is whole
   pub signature-long : length (signatureOf s envelope) ≡ signatureBytes s
   unfolding signatureOf
-  signature-long = part-length (headBytes + lengthOf envelope) (signatureBytes s) envelope (omega (arith, total))
+  signature-long = part-length (headBytes + lengthOf envelope) (signatureBytes s) envelope (omega (arith, envelope-total s envelope (h .passed)))
 
   -- the answer of the tests that follow, and both numbers with it
   pub rest-answered : (ts : List Test) {n number team₁ len₁ : ℕ} → n ≡ answer ts → number ≡ n → team₁ ≡ after n team 0 → len₁ ≡ after n len 0

@@ -10,13 +10,6 @@ use Rattle.whole.specs.Written.{lent-rest}
 use Rattle.records.specs.Layout.{stretch}
 
 module _ {A : Type 0} (start size : ℕ) (bytes : List A) where
-  -- all of them are there
-  pub stretch-inside : take (start + size - start) (drop start bytes) ≡ stretch start size bytes
-  stretch-inside = ap (λ (n : ℕ). take n (drop start bytes)) same
-    where
-      same : start + size - start ≡ size
-      same = omega arith
-
   -- the bytes end before
   pub stretch-ends : length bytes - start ≤ size → take (length bytes - start) (drop start bytes) ≡ stretch start size bytes
   stretch-ends l = lent-rest start bytes ∙ sym (take-all size (drop start bytes) (omega (arith, length-drop start bytes)))

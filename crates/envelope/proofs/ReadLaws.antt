@@ -10,8 +10,7 @@ use borrow.Author.Tests.{eq-eqb}
 use Rattle.whole.specs.Refusal.{_orElse_, answer, after}
 use Rattle.whole.specs.RefusalLaws.{answer-pass}
 use Rattle.sets.specs.declared.Numbers.{Numbers}
-use Rattle.sets.specs.Good.{Good}
-use Rattle.sets.specs.SetI.{setI, setI-good}
+use Rattle.sets.specs.SetI.{setI}
 use Rattle.records.specs.Layout.{marked, stretch, signatureBytes}
 use Rattle.records.specs.Signature.{zOf, zInRange}
 use Rattle.records.specs.SignatureParts.{signatureTests}
@@ -48,9 +47,6 @@ unfolding readTests
 read-refused s envelope r h p = head-refused s envelope _ r h p
 
 -- ---- set I
-
-pub good-i : {s : Numbers} → s ≡ setI → Good s
-good-i e = rw e setI-good
 
 pub signature-i : {s : Numbers} (envelope : List ℕ) (len : ℕ) {out : List ℕ} → s ≡ setI
     → out ≡ stretch (headBytes + len) (signatureBytes s) envelope → out ≡ stretch (headBytes + len) (signatureBytes setI) envelope

@@ -18,8 +18,7 @@ use Rattle.sets.specs.Limits.{messageLimit}
 use Rattle.sets.specs.SetI.{setI}
 use Rattle.sampling.specs.Streams.{twoBytes}
 use Rattle.records.specs.Layout.{mark, marked, signatureBytes}
-use Rattle.records.specs.SignatureLaws.{setI-signs}
-use Rattle.records.specs.SignatureParts.{Room, signatureTests}
+use Rattle.records.specs.SignatureParts.{signatureTests}
 use Rattle.envelope.specs.declared.WriteEnvelope.{WriteEnvelope}
 use Rattle.envelope.specs.declared.WriteEnvelope.the-variants.{Done, Length, Mark, Message, Z}
 use Rattle.envelope.specs.Answers.{writeEnvelopeNumber}
@@ -111,9 +110,6 @@ module _ (s : Numbers) (team : ℕ) (roster signature old : List ℕ) (w : Writa
 -- ---- set I
 
 module _ {s : Numbers} (i : s ≡ setI) where
-  pub room-i : {scratch : List ℕ} → length scratch ≡ 1024 → Room s scratch
-  room-i l = rw i (record { signs = setI-signs; scratch-long = l })
-
   pub wrote-i : {n : ℕ} (team : ℕ) (roster signature old : List ℕ) {new : List ℕ}
       → (n ≡ answer (writeTests s roster signature (length old)))
       × (new ≡ after (answer (writeTests s roster signature (length old))) (envelopeOf s team roster signature) old)

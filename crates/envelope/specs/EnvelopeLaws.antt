@@ -157,11 +157,12 @@ two-back a xs h b =
     high : numberAt a xs / 256 % 256 ≡ getD xs (suc a) 0
     high = rw (← next) (omega (arith, x-below, y-below))
 
-module _ (s : Numbers) (envelope : List ℕ) (bytes : Below 256 envelope) (passed : answer (headTests s envelope) ≡ 0) where
-  long : length envelope ≡ envelopeBytes s (lengthOf envelope)
-  unfolding headTests
-  long = eqb-true _ _ (answer-first _ 0 _ (answer-rest _ 2 _ (answer-rest _ 1 _ (answer-rest _ 0 _ passed))))
+-- the total of a head that passed
+pub envelope-total : (s : Numbers) (envelope : List ℕ) → answer (headTests s envelope) ≡ 0 → length envelope ≡ envelopeBytes s (lengthOf envelope)
+unfolding headTests
+envelope-total s envelope passed = eqb-true _ _ (answer-first _ 0 _ (answer-rest _ 2 _ (answer-rest _ 1 _ (answer-rest _ 0 _ passed))))
 
+module _ (s : Numbers) (envelope : List ℕ) (bytes : Below 256 envelope) (passed : answer (headTests s envelope) ≡ 0) where
   is-marked : marked s 4 envelope ≡ true
   unfolding headTests
   is-marked = answer-first _ 1 _ (answer-rest _ 0 _ passed)
@@ -169,17 +170,17 @@ module _ (s : Numbers) (envelope : List ℕ) (bytes : Below 256 envelope) (passe
   pub envelope-again : envelopeOf s (teamOf envelope) (rosterOf envelope) (signatureOf s envelope) ≡ envelope
   unfolding envelopeOf teamOf rosterOf signatureOf lengthOf
   envelope-again =
-      ap₂ _++_ (marked-front s 4 envelope (omega (arith, long)) is-marked)
-      (ap₂ _++_ (two-back 2 envelope (omega (arith, long)) bytes)
-      (ap₂ _++_ (ap twoBytes roster-length ∙ two-back 4 envelope (omega (arith, long)) bytes)
+      ap₂ _++_ (marked-front s 4 envelope (omega (arith, envelope-total s envelope passed)) is-marked)
+      (ap₂ _++_ (two-back 2 envelope (omega (arith, envelope-total s envelope passed)) bytes)
+      (ap₂ _++_ (ap twoBytes roster-length ∙ two-back 4 envelope (omega (arith, envelope-total s envelope passed)) bytes)
       (parts-join headBytes (lengthOf envelope) (signatureBytes s) envelope)
       ∙ parts-join 4 2 (lengthOf envelope + signatureBytes s) envelope)
       ∙ parts-join 2 2 (2 + (lengthOf envelope + signatureBytes s)) envelope)
       ∙ parts-join 0 2 (2 + (2 + (lengthOf envelope + signatureBytes s))) envelope
-      ∙ take-all (2 + (2 + (2 + (lengthOf envelope + signatureBytes s)))) envelope (omega (arith, long))
+      ∙ take-all (2 + (2 + (2 + (lengthOf envelope + signatureBytes s)))) envelope (omega (arith, envelope-total s envelope passed))
     where
       roster-length : length (stretch headBytes (lengthOf envelope) envelope) ≡ lengthOf envelope
-      roster-length = part-length headBytes (lengthOf envelope) envelope (omega (arith, long))
+      roster-length = part-length headBytes (lengthOf envelope) envelope (omega (arith, envelope-total s envelope passed))
 
 -- ---- what comes back
 

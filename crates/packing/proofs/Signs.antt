@@ -4,9 +4,8 @@
 use mathlib.Core.Path.{_≡_, sym, ap, ap₂, _∙_}
 use mathlib.Core.Bool.{true, false, true≢false}
 use Prim.Native.Nat.{ℕ, _*_, _%_, _-_, _^_, _≤_, _<_}
-use native.Mathlib.Nat.{one-mul}
 use native.Mathlib.Omega.{arith}
-use lib.Pow.{pow-pos, pow-mono, pow-lt, shl-exact}
+use lib.Pow.{pow-pos, pow-mono, pow-lt}
 use lib.IntN.{ℤ, pos, negsuc, _+ℤ_, _-ℤ_}
 use lib.Signed.{ltZ}
 use borrow.Author.Tests.{ltb-true}
@@ -16,17 +15,17 @@ use mir.Facts.{toZ-ofZ, toZ-pos}
 use Rattle.whole.specs.Int.{int, sum-is}
 use Rattle.whole.specs.Residue.{residue-lt, residue-small}
 use Rattle.whole.specs.Twos.{InBits, signed, twos, halves, signed-low, signed-high, twos-below, signed-range}
-use Rattle.whole.specs.Words.{read-i64}
+use Rattle.whole.specs.Words.{read-i64, one-shifted}
 
 -- 2^b, as the code makes it
 power : (b : ℕ) → b < 32 → toZ w64 ((1 * 2 ^ b) % 2 ^ 64) ≡ pos (2 ^ b)
 power b h =
-    ap (toZ w64) (shl-exact {a = 1} 1 b 64 (omega arith) (omega arith) ∙ one-mul (2 ^ b))
+    ap (toZ w64) (one-shifted 64 b (omega arith))
     ∙ toZ-pos w64 (pow-lt {i = b} {j = 63} (omega arith))
 
 -- 2^(b − 1), the sign's place, as the code makes it
 sign : (b : ℕ) → (0 < b) × (b < 32) → (1 * 2 ^ (b - 1)) % 2 ^ 32 ≡ 2 ^ (b - 1)
-sign b w = shl-exact {a = 1} 1 (b - 1) 32 (omega arith) (omega arith) ∙ one-mul (2 ^ (b - 1))
+sign b w = one-shifted 32 (b - 1) (omega arith)
 
 -- a number of b bits is an i32
 pub fits-i32 : {b : ℕ} {z : ℤ} → b < 32 → InBits b z → SFits w32 z

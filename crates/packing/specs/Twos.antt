@@ -6,9 +6,7 @@ use Prim.Native.Nat.{ℕ, zero, suc, _^_, _<_, suc-le-suc}
 use native.Mathlib.Nat.{zero-lt-suc, not-suc-le-zero, le-of-suc-le-suc}
 use lib.ListN.{length, getD}
 use lib.IntN.{ℤ, pos}
-use lib.Pow.{pow-pos}
 use Rattle.whole.specs.Below.{Below, below-tail}
-use Rattle.whole.specs.Residue.{residue-lt}
 use Rattle.whole.specs.Twos.{InBits, signed, twos, signed-twos, twos-signed, signed-range}
 
 -- every number is in the range of b bits
@@ -55,14 +53,6 @@ twos-signed-all b (x ∷ xs) h r =
     ap₂ _∷_ (twos-signed b x h (r .at 0 (zero-lt-suc (length xs)))) (twos-signed-all b xs h (below-tail r))
 
 -- ---- the ranges: what comes out of one goes into the other
-
-each-below : (b : ℕ) (zs : List ℤ) (i : ℕ) → i < length (map (twos b) zs) → getD (map (twos b) zs) i 0 < 2 ^ b
-each-below b [] i h = absurd (not-suc-le-zero h)
-each-below b (z ∷ zs) zero h = residue-lt (2 ^ b) z (pow-pos b)
-each-below b (z ∷ zs) (suc i) h = each-below b zs i (le-of-suc-le-suc h)
-
-pub twos-all-below : (b : ℕ) (zs : List ℤ) → Below (2 ^ b) (map (twos b) zs)
-twos-all-below b zs = record { at = each-below b zs }
 
 each-inside : (b : ℕ) (xs : List ℕ) → 0 < b → Below (2 ^ b) xs → (i : ℕ) → i < length (map (signed b) xs) → InBits b (getD (map (signed b) xs) i (pos 0))
 each-inside b [] h r i l = absurd (not-suc-le-zero l)

@@ -16,7 +16,7 @@ fn above(acc: u64, have: u32, v: u32) -> u64
 }
 
 // The b low bits of acc.
-fn low(acc: u64, b: u32) -> u32
+pub fn low(acc: u64, b: u32) -> u32
     requires { ⌜ b ≤ 32 ⌝ }
     ensures { λ r. ⌜ r ≡ acc % 2 ^ b ⌝ }
 {

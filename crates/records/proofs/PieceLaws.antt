@@ -4,7 +4,7 @@ use mathlib.Core.Path.{_≡_, sym, _∙_}
 use mathlib.Core.Bool.{false}
 use mathlib.Core.List.{List, [], _∷_, _++_, append-nil}
 use Prim.Native.Nat.{ℕ, _+_, _*_, _≤_, _<_, zero-le, _-_}
-use native.Mathlib.Nat.{le-antisymm, le-refl, le-trans}
+use native.Mathlib.Nat.{le-antisymm, le-refl, le-trans, add-sub-cancel-left}
 use native.Mathlib.Omega.{arith}
 use lib.Dec.{eqb}
 use lib.ListN.{length, getD, drop, set, take}
@@ -67,7 +67,4 @@ pub out-is : {from to new : List ℕ} {at : ℕ} → CopiesOut from at to
     → new ≡ take (at + length to - at) (drop at from) ++ drop (length (take (at + length to - at) (drop at from))) to
     → new ≡ take (length to) (drop at from)
 out-is {from} {to} {new} {at} p e =
-    e ∙ rw (size, part-length at (length to) from (p .enough), drop-length to) (append-nil (take (length to) (drop at from)))
-  where
-    size : at + length to - at ≡ length to
-    size = omega arith
+    e ∙ rw (add-sub-cancel-left at (length to), part-length at (length to) from (p .enough), drop-length to) (append-nil (take (length to) (drop at from)))

@@ -34,20 +34,17 @@ module _ {s : Numbers} {public out : List ℕ} {i len start : ℕ} (r : ReadsT s
   pub read-fits : start + len ≤ length public
   read-fits = rw (e, f) (stretch-fits s public i (r .long) (r .inside))
 
-  size : start + len - start ≡ len
-  size = omega arith
-
   pub read-unpacks : Unpacks (s .«t_bits») (take (start + len - start) (drop start public)) out
   read-unpacks =
       record {
         wide = r .good .t-byte;
         narrow = r .good .t-word;
-        exact = rw size (part-length start len public read-fits) ∙ e ∙ ap (bytesFor (s .«t_bits»)) (sym (r .room));
+        exact = rw (add-sub-cancel-left start len) (part-length start len public read-fits) ∙ e ∙ ap (bytesFor (s .«t_bits»)) (sym (r .room));
       }
 
   pub read-is : {new : List ℕ} → new ≡ unpacked (s .«t_bits») (length out) (take (start + len - start) (drop start public)) → new ≡ tOf s public i
   unfolding tOf
-  read-is g = g ∙ rw (size, e, f, r .room)
+  read-is g = g ∙ rw (add-sub-cancel-left start len, e, f, r .room)
 
 -- ---- one t_i is written
 

@@ -1,9 +1,9 @@
 -- What writing and reading a signature record answer, and what they leave in their outputs: one law for each way out.
 -- Assumes nothing.
-use mathlib.Core.Path.{_≡_, refl, sym, ap, subst, _∙_}
+use mathlib.Core.Path.{_≡_, sym, ap, subst, _∙_}
 use mathlib.Core.Bool.{Bool, true, false, _&&_, and-true}
 use mathlib.Core.List.{List, [], _∷_}
-use Prim.Native.Nat.{ℕ, zero, suc, _<_}
+use Prim.Native.Nat.{ℕ, _<_}
 use native.Mathlib.Nat.{zero-lt-suc}
 use native.Mathlib.Omega.{arith}
 use lib.Dec.{eqb}
@@ -13,7 +13,7 @@ use borrow.Author.Tests.{eq-eqb, ne-eqb, eqb-true}
 use denote.Enum.Declared.{tagOf}
 use types.Run.{OneOf, miss}
 use Rattle.whole.specs.Refusal.{answer, after}
-use Rattle.whole.specs.RefusalLaws.{both, not-first, not-second, answer-pass, answer-fail, answer-none, answer-first, answer-rest, after-done, after-refused}
+use Rattle.whole.specs.RefusalLaws.{both, not-first, not-second, answer-pass, answer-fail, answer-none, answer-first, answer-rest, after-done, after-refused, after-other}
 use Rattle.sets.specs.declared.Numbers.{Numbers}
 use Rattle.sets.specs.SetI.{setI}
 use Rattle.records.specs.declared.signature.SignatureRecord.{SignatureRecord}
@@ -21,7 +21,6 @@ use Rattle.records.specs.declared.signature.SignatureRecord.the-variants
 use Rattle.records.specs.Layout.{marked, seedBytes, signatureBytes}
 use Rattle.records.specs.Signature.{signatureRecord, zOf, challengeOf, zInRange, readSignatureTests, writeSignatureTests}
 use Rattle.records.specs.SignatureAnswers.{signatureRecordNumber}
-use Rattle.records.specs.SignatureLaws.{setI-signs}
 use Rattle.records.specs.SignatureParts.{Room, Takes, WritesChecked, zBitsOf, frontTests, signatureTests}
 use Rattle.records.proofs.signature.SignatureRecord.{the-type}
 
@@ -103,10 +102,6 @@ refusal Length t = zero-lt-suc 0
 refusal Mark t = zero-lt-suc 1
 refusal Value t = zero-lt-suc 8
 
-after-kept : {A : Type 0} (number : ℕ) (new old : A) → 0 < number → after number new old ≡ old
-after-kept zero new old h = absurd (omega arith)
-after-kept (suc m) new old h = after-refused m new old refl
-
 module _ (s : Numbers) (signature : List ℕ) (z : List ℤ) (c′ : List ℕ) where
   read-none : {number : ℕ} → number ≡ 1 → (eqb (length z) (s .n) && eqb (length c′) seedBytes) ≡ false → ReadInto s signature z c′ number z c′
   unfolding readSignatureTests
@@ -133,7 +128,7 @@ module _ (s : Numbers) (signature : List ℕ) (z : List ℤ) (c′ : List ℕ) w
         (same-answer, (sym (kept z (zOf s signature)), sym (kept c′ (challengeOf s signature))))
       where
         kept : {A : Type 0} (old new : A) → after (answer (readSignatureTests s signature (length z) (length c′))) new old ≡ old
-        kept old new = after-kept _ new old (rw same-answer at (refusal r t))
+        kept old new = after-other new old (λ none. omega (arith, rw same-answer at (refusal r t)))
 
     module _ (d : r ≡ Done) where
       passed : answer (signatureTests s signature) ≡ 0
@@ -169,9 +164,6 @@ module _ (s : Numbers) (signature : List ℕ) (z : List ℤ) (c′ : List ℕ) w
 -- ---- in set I
 
 module _ {s : Numbers} (e : s ≡ setI) where
-  pub room-i : {scratch : List ℕ} → length scratch ≡ setI .n → Room s scratch
-  room-i l = rw e (record { signs = setI-signs; scratch-long = l })
-
   pub wrote-i : (z : List ℤ) (c′ old : List ℕ) {number : ℕ} {new : List ℕ} → Wrote s z c′ old number new → Wrote setI z c′ old number new
   wrote-i z c′ old {number} {new} w = subst (λ (t : Numbers). Wrote t z c′ old number new) e w
 

@@ -1,41 +1,27 @@
 -- How long packed z is at most; |z| as the code takes it, of an i32 and of the b bits that stand for z; and the loops that test it
 -- against the bound.
 -- Assumes nothing.
-use mathlib.Core.Path.{_≡_, refl, sym, ap, _∙_}
-use mathlib.Core.Bool.{Bool, true, false, true≢false}
+use mathlib.Core.Path.{_≡_, sym, ap, _∙_}
+use mathlib.Core.Bool.{Bool, true, false}
 use mathlib.Core.List.{List, map}
-use mathlib.Core.Logic.{⊎-elim}
 use Prim.Native.Nat.{ℕ, suc, _+_, _*_, _-_, _%_, _^_, _≤_, _<_}
-use native.Mathlib.Nat.{zero-add, one-mul, mul-le-mul}
+use native.Mathlib.Nat.{zero-add}
 use native.Mathlib.Omega.{arith}
 use lib.IntN.{ℤ, pos, negsuc, natAbs, _-ℤ_}
 use lib.ListN.{length, getD, length-map, List·getD-map}
-use lib.Pow.{shl-exact}
 use lib.Signed.{ltZ}
 use borrow.Author.Tests.{ltb-true, le-leb, lt-leb}
 use mir.Syntax.{w32, w64}
 use mir.Val.{Fits, SFits, toZ, ofZ}
 use mir.Facts.{toZ-ofZ, fits-natAbs}
-use Rattle.whole.specs.Int.{abs-is, minus-is, one-part}
+use Rattle.whole.specs.Int.{not-negative-is}
 use Rattle.whole.specs.Refusal.{every}
 use Rattle.whole.specs.RefusalLaws.{Passing, passing-none, passing-more, passing-fails, passing-all}
-use Rattle.whole.specs.Twos.{signed, signed-low, signed-high}
-use Rattle.whole.specs.Words.{read-i64}
+use Rattle.whole.specs.Twos.{signed, size-low, size-high}
+use Rattle.whole.specs.Words.{read-i64, one-shifted}
 use Rattle.rounding.specs.Tests.{zPasses}
 use Rattle.sets.specs.declared.Numbers.{Numbers}
-use Rattle.sets.specs.Good.{Good}
-use Rattle.sets.specs.GoodLaws.{n-few}
-use Rattle.records.specs.Layout.{zBytes}
 use Rattle.records.specs.Signature.{zInRange}
-
--- ---- lengths
-
-module _ {s : Numbers} (good : Good s) where
-  pub z-bits-few : s .«z_bits» * s .n ≤ 2097152
-  z-bits-few = mul-le-mul (good .z-word) (n-few good)
-
-  pub zBytes-few : {len : ℕ} → len ≡ zBytes s → len ≤ 262144
-  zBytes-few e = omega (arith, z-bits-few)
 
 -- ---- of an i32
 
@@ -57,11 +43,7 @@ module _ {z : ℤ} (f : SFits w32 z) where
 
   -- any other is its own size
   pub size-above : ltZ (toZ w32 (ofZ w32 z)) (pos 0) ≡ false → toZ w32 (ofZ w32 z) ≡ pos (natAbs z)
-  size-above t = z-read ∙ go z (rw z-read at t)
-    where
-      go : (y : ℤ) → ltZ y (pos 0) ≡ false → y ≡ pos (natAbs y)
-      go (pos a) u = refl
-      go (negsuc a) u = absurd (true≢false u)
+  size-above t = z-read ∙ not-negative-is z (rw z-read at t)
 
 -- |z| of a z that was read
 pub size-read : (z : ℤ) {n : ℕ} → SFits w32 z → n ≡ natAbs (toZ w32 (ofZ w32 z)) → n ≡ natAbs z
@@ -69,29 +51,21 @@ size-read z f e = e ∙ ap natAbs (z-read f)
 
 -- ---- of b bits
 
--- 2^i, as the code makes it
-power : (i : ℕ) → i < 32 → (1 * 2 ^ i) % 2 ^ 32 ≡ 2 ^ i
-power i h = shl-exact {a = 1} 1 i 32 (omega arith) (omega arith) ∙ one-mul (2 ^ i)
-
 module _ (b x : ℕ) (p : ((0 < b) × (b < 32)) × (x < 2 ^ b)) where
   pub bits-room : x ≤ (1 * 2 ^ b) % 2 ^ 32
-  bits-room = omega (arith, power b (p .0 .1))
+  bits-room = omega (arith, one-shifted 32 b (p .0 .1))
 
   -- bits without the sign
   pub bits-low : {n : ℕ} → x < (1 * 2 ^ (b - 1)) % 2 ^ 32 → n ≡ x → n ≡ natAbs (signed b x)
-  bits-low t e = e ∙ ap natAbs (sym (signed-low b x (omega (arith, power (b - 1) (omega arith)))))
+  bits-low t e = e ∙ sym (size-low b x (omega (arith, one-shifted 32 (b - 1) (omega arith))))
 
   -- bits with the sign: what they lack to 2^b
   pub bits-high : {n : ℕ} → (1 * 2 ^ (b - 1)) % 2 ^ 32 ≤ x → n + x ≡ (1 * 2 ^ b) % 2 ^ 32 → n ≡ natAbs (signed b x)
-  bits-high {n} t e = lacks ∙ ap natAbs (sym (signed-high b x (omega (arith, power (b - 1) (omega arith)))))
+  bits-high {n} t e =
+      lacks ∙ sym (size-high b x (p .1) (omega (arith, one-shifted 32 (b - 1) (omega arith))))
     where
-      y : ℤ
-      y = pos x -ℤ pos (2 ^ b)
-
-      lacks : n ≡ natAbs y
-      lacks =
-          ⊎-elim (λ u. omega (arith, power b (p .0 .1), abs-is y, minus-is (pos x) (pos (2 ^ b))))
-          (λ d. omega (arith, power b (p .0 .1), abs-is y, minus-is (pos x) (pos (2 ^ b)))) (one-part y)
+      lacks : n ≡ 2 ^ b - x
+      lacks = omega (arith, one-shifted 32 b (p .0 .1))
 
 -- ---- the loop over z
 

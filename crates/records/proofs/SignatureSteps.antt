@@ -5,6 +5,7 @@ use mathlib.Core.Bool.{Bool, true, false}
 use mathlib.Core.List.{List, _++_, map, append-assoc}
 use Prim.Native.Nat.{ℕ, _+_, _-_, _^_, _<_}
 use native.Mathlib.Omega.{arith}
+use native.Mathlib.Nat.{add-sub-cancel-left}
 use lib.Dec.{eqb}
 use lib.IntN.{ℤ}
 use lib.ListN.{length, take, drop, length-append, length-drop, length-map}
@@ -14,11 +15,11 @@ use Rattle.whole.specs.Parts.{part-length}
 use Rattle.whole.specs.Written.{Written, written-front, written-more, written-all, written-length, lent-rest, put-rest}
 use Rattle.whole.specs.Refusal.{answer, after, every}
 use Rattle.whole.specs.RefusalLaws.{answer-pass, answer-fail, answer-none, after-done, after-refused}
-use Rattle.whole.specs.Twos.{signed, twos}
+use Rattle.whole.specs.Twos.{signed, twos, twos-all-below}
 use Rattle.rounding.specs.Tests.{zPasses}
 use Rattle.packing.specs.Digits.{bytesFor, packed, unpacked, Packs, Unpacks}
 use Rattle.packing.specs.Laws.{packed-length, unpacked-length, unpacked-below}
-use Rattle.packing.specs.Twos.{ToBits, FromBits, twos-all-below}
+use Rattle.packing.specs.Twos.{ToBits, FromBits}
 use Rattle.sets.specs.declared.Numbers.{Numbers}
 use Rattle.sets.specs.GoodLaws.{n-few}
 use Rattle.records.specs.Layout.{mark, marked, stretch, zBytes, signatureBytes}
@@ -32,20 +33,17 @@ pub z-wide : {s : Numbers} → Signs s → 0 < s .«z_bits»
 z-wide signs = omega (arith, signs .good .z-byte)
 
 module _ {s : Numbers} {bits signature : List ℕ} {len : ℕ} (r : ReadsBits s signature bits) (e : len ≡ zBytes s) where
-  size : 2 + len - 2 ≡ len
-  size = omega arith
-
   pub bits-unpack : Unpacks (s .«z_bits») (take (2 + len - 2) (drop 2 signature)) bits
   bits-unpack =
       record {
         wide = r .room .signs .good .z-byte;
         narrow = r .room .signs .good .z-word;
-        exact = rw size (part-length 2 len signature (omega (arith, r .signature-long))) ∙ e ∙ ap (bytesFor (s .«z_bits»)) (sym (r .room .scratch-long));
+        exact = rw (add-sub-cancel-left 2 len) (part-length 2 len signature (omega (arith, r .signature-long))) ∙ e ∙ ap (bytesFor (s .«z_bits»)) (sym (r .room .scratch-long));
       }
 
   pub bits-are : {new : List ℕ} → new ≡ unpacked (s .«z_bits») (length bits) (take (2 + len - 2) (drop 2 signature)) → new ≡ zBitsOf s signature
   unfolding zBitsOf
-  bits-are g = g ∙ rw (size, e, r .room .scratch-long)
+  bits-are g = g ∙ rw (add-sub-cancel-left 2 len, e, r .room .scratch-long)
 
 module _ (s : Numbers) (signature : List ℕ) {bits : List ℕ} (e : bits ≡ zBitsOf s signature) where
   pub bits-below : Below (2 ^ s .«z_bits») bits

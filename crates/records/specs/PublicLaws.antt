@@ -7,15 +7,15 @@ use mathlib.Core.List.{List, [], _∷_, _++_}
 use Prim.Native.Nat.{ℕ, _+_, _*_, _≤_, _<_}
 use native.Mathlib.Omega.{arith}
 use lib.Dec.{eqb, ltb}
-use lib.ListN.{length, getD, take, drop, length-append}
+use lib.ListN.{length, getD, take, length-append}
 use lib.Seq.{take-all}
 use borrow.Author.Tests.{eq-eqb, eqb-true, lt-ltb, ltb-true}
-use Rattle.whole.specs.Below.{Below, below-take, below-drop, below-more}
+use Rattle.whole.specs.Below.{Below, below-more, below-part}
 use Rattle.whole.specs.Parts.{part-length, part-piece, part-last, part-part, parts-join, part-second}
 use Rattle.whole.specs.Table.{joined-ext, joined-length, joined-part, joined-parts}
 use Rattle.whole.specs.Refusal.{answer}
 use Rattle.whole.specs.RefusalLaws.{both, both-first, both-second, answer-pass, answer-none, answer-first, answer-rest, every-at, every-all}
-use Rattle.whole.specs.Rows.{row-fits}
+use Rattle.whole.specs.Rows.{row-fits, row-within}
 use Rattle.packing.specs.Digits.{bytesFor, packed, unpacked}
 use Rattle.packing.specs.Laws.{packed-length, unpacked-length, unpacked-packed, packed-unpacked-whole}
 use Rattle.sets.specs.declared.Numbers.{Numbers}
@@ -43,10 +43,10 @@ marked-front s j (x ∷ y ∷ bytes) h e =
 -- ---- polynomials in a row
 
 pub polynomial-length : {A : Type 0} (n k i : ℕ) (xs : List A) → length xs ≡ k * n → i < k → length (polynomial n i xs) ≡ n
-polynomial-length n k i xs e h = part-length (n * i) n xs (omega (arith, row-fits n k i h))
+polynomial-length n k i xs e h = part-length (n * i) n xs (row-within n k i xs e h)
 
 pub polynomial-below : (m n i : ℕ) (xs : List ℕ) → Below m xs → Below m (polynomial n i xs)
-polynomial-below m n i xs b = below-take m n (drop (n * i) xs) (below-drop m (n * i) xs b)
+polynomial-below m n i xs b = below-part m (n * i) n xs b
 
 -- ---- the range of t
 
@@ -165,7 +165,7 @@ module _ (s : Numbers) (good : Good s) where
     unfolding tOf
     packed-tOf i l =
         packed-unpacked-whole (s .«t_bits») (s .n) (stretch (2 + tBytes s * i) (tBytes s) public)
-        (below-take 256 (tBytes s) (drop (2 + tBytes s * i) public) (below-drop 256 (2 + tBytes s * i) public bytes))
+        (below-part 256 (2 + tBytes s * i) (tBytes s) public bytes)
         (ap (λ (n : ℕ). 8 * n) (stretch-length i l) ∙ t-bits-whole)
 
     pub packedT-allT : packedT s (allT s public) ≡ stretch 2 (s .k * tBytes s) public

@@ -9,25 +9,25 @@ use native.Mathlib.Nat.{le-of-eq}
 use native.Mathlib.Omega.{arith}
 use lib.Dec.{lit<}
 use lib.IntN.{ℤ, pos, natAbs}
-use lib.ListN.{length, getD, drop, length-append, length-map}
+use lib.ListN.{length, getD, length-append, length-map}
 use lib.Seq.{take-all}
 use borrow.Author.Tests.{eq-eqb, eqb-true, leb-true}
 use Rattle.whole.specs.Int.{abs-le-to}
-use Rattle.whole.specs.Below.{Below, below-take, below-drop}
+use Rattle.whole.specs.Below.{Below, below-part}
 use Rattle.whole.specs.Parts.{part-length, part-piece, part-last, part-second, parts-join}
-use Rattle.whole.specs.Twos.{InBits, signed, twos}
+use Rattle.whole.specs.Twos.{InBits, signed, twos, twos-all-below}
 use Rattle.whole.specs.Refusal.{answer}
 use Rattle.whole.specs.RefusalLaws.{both, both-first, answer-pass, answer-none, answer-first, answer-rest, every-at}
 use Rattle.rounding.specs.Tests.{zPasses}
 use Rattle.packing.specs.Digits.{bytesFor, packed, unpacked}
 use Rattle.packing.specs.Laws.{packed-length, unpacked-length, unpacked-below, unpacked-packed, packed-unpacked-whole}
-use Rattle.packing.specs.Twos.{AllInBits, signed-twos-all, twos-signed-all, twos-all-below}
+use Rattle.packing.specs.Twos.{AllInBits, signed-twos-all, twos-signed-all}
 use Rattle.sets.specs.declared.Numbers.{Numbers}
 use Rattle.sets.specs.Good.{Good}
 use Rattle.sets.specs.SetI.{setI, setI-good}
 use Rattle.records.specs.Layout.{mark, marked, stretch, seedBytes, zBytes, signatureBytes}
 use Rattle.records.specs.Signature.{signatureRecord, zOf, challengeOf, zInRange, readSignatureTests}
-use Rattle.records.specs.SignatureParts.{Signs}
+use Rattle.records.specs.SignatureParts.{Signs, Room}
 use Rattle.records.specs.PublicLaws.{marked-mark, marked-front}
 
 -- ---- the range of z
@@ -119,7 +119,7 @@ module _ (s : Numbers) (good : Good s) (signature : List ℕ) (bytes : Below 256
       (twos-signed-all (s .«z_bits») (unpacked (s .«z_bits») (s .n) (stretch 2 (zBytes s) signature)) (omega (arith, good .z-byte))
       (unpacked-below (s .«z_bits») (s .n) (stretch 2 (zBytes s) signature)))
       ∙ packed-unpacked-whole (s .«z_bits») (s .n) (stretch 2 (zBytes s) signature)
-      (below-take 256 (zBytes s) (drop 2 signature) (below-drop 256 2 signature bytes))
+      (below-part 256 2 (zBytes s) signature bytes)
       (ap (λ (n : ℕ). 8 * n) (part-length 2 (zBytes s) signature (omega arith)) ∙ whole)
     where
       -- a polynomial fills its stretch
@@ -146,3 +146,6 @@ signature-read-again s signature zLength cLength good bytes e =
 -- its z is an i32
 pub setI-signs : Signs setI
 setI-signs = record { good = setI-good; narrow = lit< tt }
+
+pub room-i : {s : Numbers} {scratch : List ℕ} → s ≡ setI → length scratch ≡ setI .n → Room s scratch
+room-i e l = rw e (record { signs = setI-signs; scratch-long = l })

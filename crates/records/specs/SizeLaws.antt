@@ -10,11 +10,17 @@ use Rattle.whole.specs.Rows.{row-fits}
 use Rattle.sets.specs.declared.Numbers.{Numbers}
 use Rattle.sets.specs.Good.{Good}
 use Rattle.sets.specs.GoodLaws.{n-few}
-use Rattle.records.specs.Layout.{tBytes, publicBytes}
+use Rattle.records.specs.Layout.{tBytes, zBytes, publicBytes}
 
 module _ {s : Numbers} (good : Good s) where
   pub t-bits-few : s .«t_bits» * s .n ≤ 2097152
   t-bits-few = mul-le-mul (good .t-word) (n-few good)
+
+  pub z-bits-few : s .«z_bits» * s .n ≤ 2097152
+  z-bits-few = mul-le-mul (good .z-word) (n-few good)
+
+  pub zBytes-few : {len : ℕ} → len ≡ zBytes s → len ≤ 262144
+  zBytes-few e = omega (arith, z-bits-few)
 
   pub tBytes-few : tBytes s ≤ 262144
   tBytes-few = omega (arith, t-bits-few)

@@ -1,22 +1,21 @@
 -- What the code computes on single numbers is what the definitions say: residues of sums and differences, signed bytes and
 -- their absolute values. Assumes nothing.
-use mathlib.Core.Path.{_≡_, refl, sym, ap, subst, _∙_}
+use mathlib.Core.Path.{_≡_, sym, ap, subst, _∙_}
 use mathlib.Core.Bool.{true, false}
 use Prim.Native.Nat.{ℕ, _+_, _*_, _-_, _^_, _≤_, _<_}
-use native.Mathlib.Nat.{mul-one, le-refl}
+use native.Mathlib.Nat.{mul-one}
 use native.Mathlib.Omega.{arith}
-use mathlib.Core.Logic.{_⊎_, inl, inr, ⊎-elim}
 use lib.Dec.{T}
 use mir.Syntax.{w32}
 use mir.Val.{toZ, SFits}
 use mir.Facts.{toZ-pos}
 use borrow.Author.Needs.{sfits-of}
-use borrow.Author.Tests.{ltb-true, lt-ltb, le-ltb}
+use borrow.Author.Tests.{ltb-true}
 use lib.IntN.{ℤ, pos, negsuc, negℤ, natAbs, _+ℤ_, _-ℤ_}
-use lib.Signed.{mag, ltZ, nonNeg}
-use Rattle.whole.specs.Int.{up, down, int, sum-is, minus-is, up-neg, down-neg, abs-is, abs-neg, one-part, lt-or-le}
+use lib.Signed.{ltZ, nonNeg}
+use Rattle.whole.specs.Int.{int, sum-is, minus-is, up-neg, down-neg, abs-neg, mag-le, negative-is, not-negative-is}
 use Rattle.whole.specs.Residue.{residue, residue-is, Same, same-eq}
-use Rattle.whole.specs.Twos.{signed}
+use Rattle.whole.specs.Twos.{signed, signed-low, signed-high, signed-size}
 use Rattle.ring.specs.Asks.{Taken, Added}
 
 -- ---- a − b modulo q
@@ -36,22 +35,6 @@ module _ (q a b : ℕ) (t : Taken q a b) where
           }
 
 -- ---- v + x modulo q
-
--- a number and its negation fit where the absolute value does
-pub mag-le : (z : ℤ) → mag z ≤ natAbs z
-mag-le (pos n) = le-refl n
-mag-le (negsuc n) = omega arith
-
-negative-is : (x : ℤ) → ltZ x (pos 0) ≡ true → x ≡ negℤ (pos (natAbs x))
-negative-is (pos n) e = absurd (omega (arith, ltb-true n 0 e))
-negative-is (negsuc n) e = refl
-
-not-negative-is : (x : ℤ) → ltZ x (pos 0) ≡ false → x ≡ pos (natAbs x)
-not-negative-is (pos n) e = refl
-not-negative-is (negsuc n) e = absurd (omega (arith, z))
-  where
-    z : _≡_ {A = ℕ} 0 1
-    z = cc
 
 pub negated-sign : (x : ℤ) → ltZ x (pos 0) ≡ true → T (nonNeg (negℤ x))
 negated-sign (pos n) e = absurd (omega (arith, ltb-true n 0 e))
@@ -82,39 +65,24 @@ module _ (q v : ℕ) (x : ℤ) (a : Added q v x) where
 -- ---- signed bytes
 
 pub byte-low : (b : ℕ) → b < 128 → pos b ≡ signed 8 b
-unfolding signed
-byte-low b l = rw (lt-ltb b 128 l)
+byte-low b l = sym (signed-low 8 b l)
 
 pub byte-high : (b : ℕ) → 128 ≤ b → pos b -ℤ pos 256 ≡ signed 8 b
-unfolding signed
-byte-high b l = rw (le-ltb b 128 l)
-
-pub size-low : (b : ℕ) → b < 128 → b ≡ natAbs (signed 8 b)
-size-low b l = ap natAbs (byte-low b l)
-
-pub size-high : (b : ℕ) → 128 ≤ b → b < 256 → 256 - b ≡ natAbs (signed 8 b)
-size-high b l m = go (one-part y) ∙ ap natAbs (byte-high b l)
-  where
-    y : ℤ
-    y = pos b -ℤ pos 256
-
-    go : (up y ≡ 0) ⊎ (down y ≡ 0) → 256 - b ≡ natAbs y
-    go (inl e) = omega (arith, abs-is y, minus-is (pos b) (pos 256))
-    go (inr e) = omega (arith, abs-is y, minus-is (pos b) (pos 256))
-
-pub size-small : (b : ℕ) → b < 256 → natAbs (signed 8 b) ≤ 128
-size-small b m = ⊎-elim (λ l. omega (arith, size-low b l)) (λ l. omega (arith, size-high b l m)) (lt-or-le b 128)
+byte-high b l = sym (signed-high 8 b l)
 
 -- a byte is the same number in a wider word
 pub byte-word : (b : ℕ) → b < 256 → toZ w32 b ≡ pos b
 byte-word b l = toZ-pos w32 {n = b} (omega arith)
 
-pub byte-fits : (b : ℕ) → b < 256 → SFits w32 (signed 8 b)
-byte-fits b l = sfits-of (omega (arith, mag-le (signed 8 b), size-small b l))
-
 -- a small number fits, and so does its negation
+pub small-fits : (z : ℤ) → natAbs z < 2 ^ 31 → SFits w32 z
+small-fits z h = sfits-of (omega (arith, mag-le z))
+
+pub byte-fits : (b : ℕ) → b < 256 → SFits w32 (signed 8 b)
+byte-fits b l = small-fits (signed 8 b) (omega (arith, signed-size b l))
+
 pub number-fits : (q : ℕ) (x : ℤ) → natAbs x ≤ q → q < 2 ^ 31 → SFits w32 x
-number-fits q x h l = sfits-of (omega (arith, mag-le x))
+number-fits q x h l = small-fits x (omega arith)
 
 pub negated-fits : (q : ℕ) (x : ℤ) → natAbs x ≤ q → q < 2 ^ 31 → SFits w32 (negℤ x)
-negated-fits q x h l = sfits-of (omega (arith, mag-le (negℤ x), abs-neg x))
+negated-fits q x h l = small-fits (negℤ x) (omega (arith, abs-neg x))

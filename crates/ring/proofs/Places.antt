@@ -2,18 +2,17 @@
 -- when the bytes from k on have been pushed in. Assumes nothing.
 use mathlib.Core.Path.{_≡_, refl, sym, ap, ap₂, subst, _∙_}
 use mathlib.Core.List.{List, [], _∷_, _++_}
-use Prim.Native.Nat.{ℕ, zero, suc, _+_, _*_, _-_, _≤_, _<_, min, max}
+use Prim.Native.Nat.{ℕ, suc, _+_, _*_, _-_, _≤_, _<_, min, max}
 use native.Mathlib.Numerals.{add-one}
 use native.Mathlib.Omega.{arith}
 use lib.ListN.{length, getD, drop, set, replicate, length-append, length-drop, length-replicate, getD-replicate, length-map, List·getD-map, drop-of-length-le}
 use lib.Seq.{drop-cons, drop-length, append-snoc, set-at, getD-at, set-getD}
 use lib.Dec.{lit<}
 use lib.IntN.{natAbs}
-use Rattle.whole.specs.Below.{Below}
+use Rattle.whole.specs.Below.{Below, below-cons, below-tail, below-zeros}
 use Rattle.whole.specs.Table.{table, table-is}
-use Rattle.whole.specs.Twos.{signed}
+use Rattle.whole.specs.Twos.{signed, signed-size}
 use Rattle.ring.specs.Largest.{push, places, added, sizes, Cleared, Few, Addable}
-use Rattle.ring.proofs.Numbers.{size-small}
 
 -- ---- a push
 
@@ -145,35 +144,21 @@ module _ {h : ℕ} {e : List ℕ} {k : ℕ} {now : List ℕ} (p : Picked h e k n
 
 -- ---- how much a place holds
 
-cons-below : {m p : ℕ} {ps : List ℕ} → p < m → Below m ps → Below m (p ∷ ps)
-cons-below {m} {p} {ps} h b = record { at = go }
-  where
-    go : (i : ℕ) → i < length {A = ℕ} (p ∷ ps) → getD {A = ℕ} (p ∷ ps) i 0 < m
-    go zero l = h
-    go (suc i) l = b .at i (omega arith)
-
-tail-below : {m p : ℕ} {ps : List ℕ} → Below m (p ∷ ps) → Below m ps
-tail-below b = record { at = λ i l. b .at (suc i) (omega arith) }
-
 push-below : {m : ℕ} (x : ℕ) (ps : List ℕ) → x < m → Below m ps → Below m (push x ps)
 unfolding push
 push-below x [] h b = b
 push-below x (p ∷ ps) h b =
-    cons-below (omega (arith, b .at 0 (omega arith))) (push-below (min x p) ps (omega arith) (tail-below b))
+    below-cons (omega (arith, b .at 0 (omega arith))) (push-below (min x p) ps (omega arith) (below-tail b))
 
 pub places-below : {m : ℕ} (h : ℕ) (xs : List ℕ) → 0 < m → Below m xs → Below m (places h xs)
 unfolding places
-places-below {m} h [] l b = zero-below h
-  where
-    zero-below : (n : ℕ) → Below m (replicate n 0)
-    zero-below zero = record { at = λ i k. absurd (omega arith) }
-    zero-below (suc n) = cons-below l (zero-below n)
-places-below h (x ∷ xs) l b = push-below x (places h xs) (b .at 0 (omega arith)) (places-below h xs l (tail-below b))
+places-below h [] l b = below-zeros l h
+places-below h (x ∷ xs) l b = push-below x (places h xs) (b .at 0 (omega arith)) (places-below h xs l (below-tail b))
 
 pub sizes-below : (e : List ℕ) → Below 256 e → Below 129 (sizes e)
 unfolding signed
 sizes-below e b =
-    record { at = λ i l. rw (List·getD-map (λ (y : ℕ). natAbs (signed 8 y)) e i 0) (omega (arith, size-small (getD e i 0) (b .at i (omega (arith, length-map e (λ (y : ℕ). natAbs (signed 8 y))))))) }
+    record { at = λ i l. rw (List·getD-map (λ (y : ℕ). natAbs (signed 8 y)) e i 0) (omega (arith, signed-size (getD e i 0) (b .at i (omega (arith, length-map e (λ (y : ℕ). natAbs (signed 8 y))))))) }
 
 -- ---- what the calls ask
 

@@ -11,7 +11,7 @@ use lib.IntN.{ℤ, pos, _+ℤ_, _-ℤ_, _*ℤ_}
 use Rattle.whole.specs.Int.{int, sum-is, minus-is, *ℤ-assoc}
 use Rattle.whole.specs.Residue.{residue, residue-is, residue-eq-same, Same, same-refl, same-sym, same-trans, same-minus}
 use Rattle.whole.specs.Sum.{sum, sum-total, total, total-ext}
-use Rattle.whole.specs.Below.{Below, below-more}
+use Rattle.whole.specs.Below.{below-more, below-drop, below-take}
 use Rattle.ring.specs.Product.{mul, mul-written}
 use Rattle.ring.specs.Lists.{naturals}
 use Rattle.ring.specs.Asks.{crossing, crossed, Factors, Multiple, Kept, Addend, Foldable, Row}
@@ -168,12 +168,6 @@ above-is k xs =
 
 upto-is : (k : ℕ) (xs : List ℕ) → upto k xs ≡ take (suc k) xs
 upto-is k xs = ap (λ (n : ℕ). take n xs) (add-one k)
-
-below-drop : (m n : ℕ) (xs : List ℕ) → Below m xs → Below m (drop n xs)
-below-drop m n xs b = record { at = λ i l. rw (getD-drop n xs i 0) (b .at (n + i) (omega (arith, length-drop n xs))) }
-
-below-take : (m n : ℕ) (xs : List ℕ) → Below m xs → Below m (take n xs)
-below-take m n xs b = record { at = λ i l. rw (getD-take n xs i 0 (omega (arith, length-take n xs))) (b .at i (omega (arith, length-take n xs))) }
 
 module _ {q multiple : ℕ} {a b : List ℕ} {k : ℕ} (r : Row q multiple a b k) where
   pub above-fits : Foldable multiple 0 (above k a) (above k b)

@@ -8,10 +8,9 @@ use native.Mathlib.Numerals.{add-one}
 use native.Mathlib.Omega.{arith}
 use lib.ListN.{length, getD}
 use lib.IntN.{ℤ, pos, negsuc, negℤ, natAbs, _+ℤ_, _-ℤ_, _*ℤ_, +ℤ-idl}
-use borrow.Author.Tests.{lt-ltb, le-ltb}
 use mir.Syntax.{w8, w32}
 use mir.Val.{SFits, toZ, ofZ}
-use mir.Facts.{toZ-ofZ, toZ-pos}
+use mir.Facts.{toZ-ofZ}
 use Rattle.whole.specs.Int.{int, sum-is, product-is, up-neg, down-neg, abs-sum, abs-neg, abs-product}
 use Rattle.whole.specs.Residue.{residue, residue-is, residue-same, Same, same-eq, same-refl, same-sym, same-trans, same-add, same-mul}
 use Rattle.whole.specs.Sum.{sum, sum-first}
@@ -20,6 +19,7 @@ use Rattle.ring.specs.Product.{Poly, turn, turn-low, turn-high, mul}
 use Rattle.ring.specs.Lists.{naturals, signedBytes}
 use Rattle.ring.specs.Sparse.{turns, sparse, mul-sparse, Sign, Signed, sign-size}
 use Rattle.ring.specs.Asks.{Near, Turned, SparseRow, SparseProduct, ByteRow, ByteProduct}
+use Rattle.ring.proofs.Numbers.{small-fits}
 
 -- ---- one turn, modulo q
 
@@ -130,10 +130,6 @@ module _ {q n : ℕ} {f : Poly} {ps : List ℕ} {ss : List ℤ} {k : ℕ} where
 
 -- ---- signed bytes
 
-small-fits : (z : ℤ) → natAbs z < 2 ^ 31 → SFits w32 z
-small-fits (pos a) h = record { sfits = h }
-small-fits (negsuc a) h = record { sfits = omega arith }
-
 -- −z is 0 − z to the machine
 pub minus-fits : (z : ℤ) → SFits w32 z → natAbs z ≤ 128 → SFits w32 (pos 0 -ℤ toZ w32 (ofZ w32 z))
 minus-fits z f h = small-fits (pos 0 -ℤ toZ w32 (ofZ w32 z)) (rw (toZ-ofZ f, +ℤ-idl (negℤ z), abs-neg z) (omega arith))
@@ -141,19 +137,8 @@ minus-fits z f h = small-fits (pos 0 -ℤ toZ w32 (ofZ w32 z)) (rw (toZ-ofZ f, +
 minus-read : (z : ℤ) → SFits w32 z → natAbs z ≤ 128 → toZ w32 (ofZ w32 (pos 0 -ℤ toZ w32 (ofZ w32 z))) ≡ negℤ z
 minus-read z f h = toZ-ofZ (minus-fits z f h) ∙ ap (λ (x : ℤ). pos 0 -ℤ x) (toZ-ofZ f) ∙ +ℤ-idl (negℤ z)
 
-pub byte-low : (b : ℕ) → b < 128 → toZ w32 b ≡ signed 8 b
-unfolding signed
-byte-low b h = toZ-pos w32 {n = b} (omega arith) ∙ sym (rw (lt-ltb b 128 h))
-
-pub byte-high : (b : ℕ) → 128 ≤ b → b < 2 ^ 8 → toZ w32 b -ℤ pos 256 ≡ signed 8 b
-unfolding signed
-byte-high b h l = ap (λ (z : ℤ). z -ℤ pos 256) (toZ-pos w32 {n = b} (omega arith)) ∙ sym (rw (le-ltb b 128 h))
-
 pub signed-small : (b : ℕ) {r : ℤ} → b < 2 ^ 8 → r ≡ signed 8 b → natAbs r ≤ 128
 signed-small b l e = omega (arith, ap natAbs e, signed-size b l)
-
-pub high-fits : (b : ℕ) → 128 ≤ b → b < 2 ^ 8 → SFits w32 (toZ w32 b -ℤ pos 256)
-high-fits b h l = small-fits (toZ w32 b -ℤ pos 256) (rw (byte-high b h l) (omega (arith, signed-size b l)))
 
 -- coefficient k of xᵖ · s, from −128 to 128
 pub byte-turn-low : (s : List ℕ) (p k : ℕ) (r : ℤ) → SFits w32 r → getD s (k - p) 0 < 2 ^ 8 → p ≤ k → r ≡ signed 8 (getD s (k - p) 0) → (toZ w32 (ofZ w32 r) ≡ turn (length s) p (signedBytes s) k) × (natAbs (toZ w32 (ofZ w32 r)) ≤ 128)

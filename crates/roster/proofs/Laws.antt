@@ -3,21 +3,16 @@
 use mathlib.Core.Path.{_≡_, sym, ap, ap₂, subst, _∙_}
 use mathlib.Core.List.{List}
 use Prim.Native.Nat.{ℕ, _-_, _≤_, _<_}
-use native.Mathlib.Omega.{arith}
-use lib.ListN.{length, take, drop, length-drop}
-use lib.Seq.{take-all}
+use lib.ListN.{length, take, drop}
 use borrow.Author.Tests.{le-leb, lt-leb}
 use Rattle.whole.specs.Refusal.{answer, after}
 use Rattle.whole.specs.RefusalLaws.{answer-pass, answer-fail}
+use Rattle.whole.specs.Written.{lent-rest}
 use Rattle.sets.specs.declared.Numbers.{Numbers}
-use Rattle.sets.specs.Good.{Good}
-use Rattle.sets.specs.SetI.{setI, setI-good}
+use Rattle.sets.specs.SetI.{setI}
 use Rattle.records.specs.Layout.{publicBytes}
 use Rattle.envelope.specs.Envelope.{lengthOf, openTests, teamAnswered}
 use Rattle.roster.specs.Program.{programTests, envelopePart}
-
-pub good-i : {numbers : Numbers} → numbers ≡ setI → Good numbers
-good-i e = subst Good (sym e) setI-good
 
 -- what is answered
 pub record Answers (input : List ℕ) (number team len : ℕ) : Type 0 where
@@ -55,7 +50,7 @@ module _ (input : List ℕ) {numbers : Numbers} {end : ℕ} (n : numbers ≡ set
       }
     where
       rest : take (length input - end) (drop end input) ≡ envelopePart input
-      rest = take-all (length input - end) (drop end input) (omega (arith, length-drop end input)) ∙ ap (λ (x : ℕ). drop x input) end-is
+      rest = lent-rest end input ∙ ap (λ (x : ℕ). drop x input) end-is
 
       same : answer (openTests setI (take end input) (take (length input - end) (drop end input))) ≡ answer (programTests input)
       same =

@@ -4,13 +4,12 @@ use mathlib.Core.Path.{_≡_}
 use mathlib.Core.Bool.{cond}
 use mathlib.Core.Logic.{_⊎_, inl, inr, ⊎-elim}
 use Prim.Native.Nat.{ℕ, zero, suc, _*_, _/_, _%_, _≤_, _<_}
-use native.Mathlib.Nat.{mul-one}
 use native.Mathlib.Omega.{arith}
 use lib.Dec.{leb}
 use lib.IntN.{ℤ, pos, negsuc, negℤ, natAbs, _+ℤ_, _-ℤ_, _*ℤ_}
 use borrow.Author.Tests.{le-leb, lt-leb}
 use Rattle.whole.specs.Int.{up, down, int, sum-is, minus-is, up-neg, down-neg, abs-is, one-part, lt-or-le}
-use Rattle.whole.specs.Residue.{residue, residue-lt, residue-same, Same, same-refl, same-sym, same-trans}
+use Rattle.whole.specs.Residue.{residue, residue-lt, residue-same, Same, same-refl, same-sym, same-trans, same-back}
 
 -- The centred remainder of z by m: z's residue where that is at most m / 2, and m less where it is above.
 -- For odd m it runs from −floor(m/2) to floor(m/2), for even m from above −m/2 to m/2, which is included.
@@ -47,13 +46,10 @@ centred-central m z h =
     (λ le. rw (le-leb (residue m z) (m / 2) le) (record { most = omega arith; least = h }))
     (lt-or-le (m / 2) (residue m z))
 
-less-same : (m r : ℕ) → Same m (pos r) (pos r -ℤ pos m)
-less-same m r = record { times = pos 1; is = omega (int, minus-is (pos r) (pos m), sum-is (pos r -ℤ pos m) (pos (m * 1)), mul-one m) }
-
 pub centred-same : (m : ℕ) (z : ℤ) → 0 < m → Same m z (centred m z)
 unfolding centred
 centred-same m z h =
-    ⊎-elim (λ gt. rw (lt-leb (residue m z) (m / 2) gt) (same-trans (residue-same m z h) (less-same m (residue m z))))
+    ⊎-elim (λ gt. rw (lt-leb (residue m z) (m / 2) gt) (same-trans (residue-same m z h) (same-sym (same-back m (pos (residue m z))))))
     (λ le. rw (le-leb (residue m z) (m / 2) le) (residue-same m z h)) (lt-or-le (m / 2) (residue m z))
 
 unique : (m : ℕ) (x y t : ℤ) → Central m x → Central m y → x ≡ y +ℤ pos m *ℤ t → x ≡ y

@@ -5,9 +5,9 @@ use Prim.Native.Nat.{ℕ, _+_, _*_, _/_, _^_, _≤_, _<_}
 use native.Mathlib.Nat.{le-of-eq, div-mul-le-self, mul-le-mul-left, le-refl, mul-comm, lt-of-lt-of-le}
 use native.Mathlib.Omega.{arith}
 use lib.ListN.{length, getD, take, drop, length-drop, drop-of-length-le}
-use lib.Seq.{getD-take, getD-drop, length-take-le}
 use lib.Pow.{pow-mono}
-use Rattle.whole.specs.Below.{Below, below-take, below-drop}
+use Rattle.whole.specs.Below.{Below, below-drop, below-part}
+use Rattle.whole.specs.Parts.{part-length, part-at}
 use Rattle.packing.specs.Digits.{value}
 use Rattle.packing.specs.Laws.{value-drop, value-below}
 use Rattle.sampling.specs.Candidates.{held}
@@ -24,7 +24,7 @@ pub record Reading (stretch : List ℕ) (size from v k : ℕ) : Type 0 where
 
 module _ (stretch : List ℕ) (size from : ℕ) (room : from + size ≤ length stretch) where
   long : length (take size (drop from stretch)) ≡ size
-  long = length-take-le size (drop from stretch) (omega (arith, length-drop from stretch))
+  long = part-length from size stretch room
 
   pub reading-none : Reading stretch size from 0 size
   unfolding value
@@ -35,17 +35,14 @@ module _ (stretch : List ℕ) (size from : ℕ) (room : from + size ≤ length s
   reading-more {v} {k} {more} {fewer} r e f =
       record {
         within = omega (arith, r .within);
-        is = f ∙ rw (value-drop 8 fewer (take size (drop from stretch)), byte, e, ← r .is) (omega arith);
+        is = f ∙ rw (value-drop 8 fewer (take size (drop from stretch)), part-at from size fewer stretch 0 (omega (arith, r .within)), e, ← r .is) (omega arith);
       }
-    where
-      byte : getD (take size (drop from stretch)) fewer 0 ≡ getD stretch (from + fewer) 0
-      byte = getD-take size (drop from stretch) fewer 0 (omega (arith, r .within)) ∙ getD-drop from stretch fewer 0
 
   -- 4 bytes at most
   pub reading-small : {v k : ℕ} → Reading stretch size from v k → size ≤ 4 → Below 256 stretch → v < 2 ^ 32
   reading-small {v} {k} r h b =
       rw (r .is)
-      (lt-of-lt-of-le (value-below 8 (drop k (take size (drop from stretch))) (below-drop 256 k (take size (drop from stretch)) (below-take 256 size (drop from stretch) (below-drop 256 from stretch b))))
+      (lt-of-lt-of-le (value-below 8 (drop k (take size (drop from stretch))) (below-drop 256 k (take size (drop from stretch)) (below-part 256 from size stretch b)))
       (pow-mono {j = 32} (omega (arith, length-drop k (take size (drop from stretch)), long))))
 
   pub reading-all : {v k : ℕ} → Reading stretch size from v k → k ≤ 0 → v ≡ value 8 (take size (drop from stretch))

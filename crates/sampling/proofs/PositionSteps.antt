@@ -11,10 +11,11 @@ use native.Mathlib.Numerals.{add-one}
 use native.Mathlib.Omega.{arith}
 use lib.IntN.{ℤ, pos, negsuc}
 use lib.ListN.{length, getD, take, drop, take-append-drop, length-drop, length-map, drop-of-length-le}
-use lib.Seq.{take-suc, take-all, drop-cons, length-take-le, getD-take, getD-drop}
+use lib.Seq.{take-suc, take-all, drop-cons}
 use borrow.Author.Tests.{eq-eqb, ne-eqb}
 use Rattle.whole.specs.Int.{lt-or-le, less-one}
 use Rattle.whole.specs.Below.{Below}
+use Rattle.whole.specs.Parts.{part-length, part-at}
 use Rattle.packing.specs.Digits.{value}
 use Rattle.packing.specs.Laws.{value-drop}
 use Rattle.sampling.specs.Candidates.{held, piece}
@@ -38,10 +39,10 @@ third stretch j h b = omega (arith, value-drop 8 0 bytes, value-drop 8 1 bytes, 
     room = held-room 3 j stretch h
 
     byte : (k : ℕ) → k < 3 → getD bytes k 0 ≡ getD stretch (3 * j + k) 0
-    byte k l = getD-take 3 (drop (3 * j) stretch) k 0 l ∙ getD-drop (3 * j) stretch k 0
+    byte k l = part-at (3 * j) 3 k stretch 0 l
 
     nothing : value 8 (drop 3 bytes) ≡ 0
-    nothing = rw (drop-of-length-le bytes (le-of-eq (length-take-le 3 (drop (3 * j) stretch) (omega (arith, room, length-drop (3 * j) stretch)))))
+    nothing = rw (drop-of-length-le bytes (le-of-eq (part-length (3 * j) 3 stretch room)))
 
 module _ (stretch : List ℕ) (j : ℕ) (h : j < held 3 stretch) (b : Below 256 stretch) where
   pub sign-set : getD stretch (3 * j + 2) 0 % 2 ≡ 1 → signOf (piece 3 stretch j / 65536) ≡ negsuc 0

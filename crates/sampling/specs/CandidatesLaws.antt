@@ -6,14 +6,16 @@
 -- Assumes nothing.
 use mathlib.Core.Path.{_≡_, sym, ap, ap₂, _∙_}
 use mathlib.Core.List.{List, _++_}
-use Prim.Native.Nat.{ℕ, _+_, _*_, _/_, _%_, _^_, _≤_, _<_}
-use native.Mathlib.Nat.{mod-lt, mod-add-div, mul-add-div, mul-add, mul-le-mul-left, mul-div-right}
+use Prim.Native.Nat.{ℕ, _+_, _*_, _/_, _%_, _^_, _<_}
+use native.Mathlib.Nat.{mod-lt, mod-add-div, mul-add-div, mul-add, mul-div-right, mul-comm}
 use native.Mathlib.Omega.{arith}
-use lib.ListN.{length, getD, drop, length-append}
-use lib.Seq.{take-append-le, drop-append-le, drop-append-add}
+use lib.ListN.{length, getD, length-append}
 use lib.Pow.{pow-pos}
+use Rattle.packing.specs.Digits.{value}
 use Rattle.whole.specs.Table.{table, length-table, getD-table, table-split, table-ext}
 use Rattle.whole.specs.Below.{Below, below-table}
+use Rattle.whole.specs.Parts.{part-first, part-second}
+use Rattle.whole.specs.Rows.{row-within}
 use Rattle.sampling.specs.Candidates.{held, piece, candidates}
 
 pub candidates-length : (size bits : ℕ) (stream : List ℕ) → length (candidates size bits stream) ≡ held size stream
@@ -34,15 +36,12 @@ candidates-at size bits stream j h = getD-table (held size stream) j (λ j. piec
 -- the pieces of the first stretch
 piece-front : (size m : ℕ) (xs ys : List ℕ) (j : ℕ) → length xs ≡ size * m → j < m → piece size (xs ++ ys) j ≡ piece size xs j
 piece-front size m xs ys j e h =
-    rw (drop-append-le (size * j) xs ys (omega (arith, room)), take-append-le size (drop (size * j) xs) ys (omega (arith, room, lib.ListN.length-drop (size * j) xs)))
-  where
-    room : size * (j + 1) ≤ size * m
-    room = mul-le-mul-left size (omega arith)
+    ap (value 8) (part-first (size * j) size xs ys (row-within size m j xs (e ∙ mul-comm size m) h))
 
 -- and of what follows it
 piece-back : (size m : ℕ) (xs ys : List ℕ) (j : ℕ) → length xs ≡ size * m → piece size (xs ++ ys) (m + j) ≡ piece size ys j
 piece-back size m xs ys j e =
-    rw (mul-add size m j, ← e, drop-append-add xs ys (size * j))
+    rw (mul-add size m j) (ap (value 8) (part-second (size * m) (size * j) size xs ys e))
 
 held-append : (size m : ℕ) (xs ys : List ℕ) → 0 < size → length xs ≡ size * m → held size (xs ++ ys) ≡ m + held size ys
 held-append size m xs ys h e = rw (length-append xs ys, e) (mul-add-div h m (length ys))

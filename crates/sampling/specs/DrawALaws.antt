@@ -13,7 +13,7 @@ use native.Mathlib.Nat.{mul-zero}
 use native.Mathlib.Omega.{arith}
 use lib.ListN.{length, take, drop}
 use lib.Seq.{take-at, drop-at, drop-drop}
-use Rattle.whole.specs.Below.{Below, below-more}
+use Rattle.whole.specs.Below.{Below}
 use Rattle.whole.specs.Rows.{row-fits, row-next}
 use Rattle.shake.specs.declared.Sponge.{Sponge}
 use Rattle.shake.specs.Sponge.{absorbed, squeezed}
@@ -23,12 +23,11 @@ use Rattle.sets.specs.Marks.{fresh}
 use Rattle.sets.specs.GoodLaws.{row-few}
 use Rattle.sampling.specs.declared.drawn.DrawA.{DrawA}
 use Rattle.sampling.specs.Candidates.{candidates}
-use Rattle.sampling.specs.CandidatesLaws.{candidates-below}
 use Rattle.sampling.specs.Values.{values}
-use Rattle.sampling.specs.ValuesLaws.{values-below}
 use Rattle.sampling.specs.Streams.{allA, aOf}
 use Rattle.sampling.specs.SpongeLaws.{stream-squeezed}
 use Rattle.sampling.specs.DrawA.{valuesLeft, ValidA, StartedA, NextA, AfterA}
+use Rattle.sampling.specs.StreamsLaws.{drawn-below}
 
 -- ---- counts
 
@@ -75,8 +74,7 @@ after-a s d out r e long h f =
 pub left-below : (s : Numbers) → Good s → (d : DrawA) → Below (s .q) (valuesLeft s d)
 unfolding valuesLeft
 left-below s g d =
-    values-below (s .q) (d .need) (candidates 4 (s .«t_bits») (squeezed (4 * d .left) (d .sponge)))
-    (below-more _ (g .t-once) (candidates-below 4 (s .«t_bits») (squeezed (4 * d .left) (d .sponge))))
+    drawn-below (s .q) (d .need) 4 (s .«t_bits») (squeezed (4 * d .left) (d .sponge)) (g .t-once)
 
 -- ---- between a_i and a_(i + 1)
 

@@ -21,6 +21,7 @@ use lib.Dec.{ltb, eqb}
 use lib.IntN.{ℤ, pos, negsuc}
 use lib.ListN.{length, getD, length-append}
 use borrow.Author.Tests.{lt-ltb, le-ltb, ltb-false}
+use Rattle.ring.specs.Sparse.{Sign}
 use Rattle.whole.specs.Below.{Below, below-cons, below-tail, below-table}
 use Rattle.whole.specs.Table.{table, length-table, getD-table, map-table}
 use Rattle.sampling.specs.Candidates.{emit, held, piece}
@@ -303,23 +304,20 @@ drawn-inside bits stream =
     (below-table (2 ^ bits) (held 3 stream) (λ j. piece 3 stream j % 2 ^ bits) (λ j l. mod-lt (piece 3 stream j) (pow-pos bits)))
 
 -- each sign is +1 or −1
-abbrev pub IsSign : ℤ → Type 0
-IsSign z = (z ≡ pos 1) ⊎ (z ≡ negsuc 0)
-
-signOf-is : (byte : ℕ) → IsSign (signOf byte)
+signOf-is : (byte : ℕ) → Sign (signOf byte)
 signOf-is byte = go (eqb (byte % 2) 1)
   where
-    go : (t : Bool) → IsSign (cond t (negsuc 0) (pos 1))
+    go : (t : Bool) → Sign (cond t (negsuc 0) (pos 1))
     go true = inr refl
     go false = inl refl
 
 pub drawn-signs : (bits : ℕ) (stream : List ℕ) (i : ℕ) → i < length (signsOf (drawnCandidates bits stream))
-    → IsSign (getD (signsOf (drawnCandidates bits stream)) i (pos 0))
+    → Sign (getD (signsOf (drawnCandidates bits stream)) i (pos 0))
 unfolding drawnCandidates
 drawn-signs bits stream = rw (map-table (λ (t : Drawn). t .sign) (held 3 stream) (λ j. drawnOf bits (piece 3 stream j))) each
   where
     sign : ℕ → ℤ
     sign j = signOf (piece 3 stream j / 65536)
 
-    each : (i : ℕ) → i < length (table (held 3 stream) sign) → IsSign (getD (table (held 3 stream) sign) i (pos 0))
+    each : (i : ℕ) → i < length (table (held 3 stream) sign) → Sign (getD (table (held 3 stream) sign) i (pos 0))
     each i l = rw (getD-table (held 3 stream) i sign (pos 0) (omega (arith, length-table (held 3 stream) sign))) (signOf-is (piece 3 stream i / 65536))

@@ -6,11 +6,10 @@
 -- Assumes nothing.
 use mathlib.Core.Path.{_≡_, ap, _∙_}
 use mathlib.Core.List.{List, _++_, map}
-use Prim.Native.Nat.{ℕ, _^_, _<_}
+use Prim.Native.Nat.{ℕ, _<_}
 use native.Mathlib.Omega.{arith}
 use lib.IntN.{ℤ}
-use lib.ListN.{getD}
-use Rattle.whole.specs.Below.{Below, below-cons, below-append}
+use Rattle.whole.specs.Below.{Below, below-cons, below-append, below-none}
 use Rattle.whole.specs.Twos.{twos}
 use Rattle.shake.specs.declared.Sponge.{Sponge}
 use Rattle.shake.specs.Sponge.{blank, absorbed, squeezed}
@@ -23,15 +22,12 @@ use Rattle.sets.specs.Marks.{streamMark, fresh}
 use Rattle.sampling.specs.Streams.{twoBytes, challenge}
 
 -- what each element of a slice of bytes shows
-pub bytes-below : (bytes : List ℕ) → ((i : ℕ) → getD bytes i 0 < 2 ^ 8) → Below 256 bytes
-bytes-below bytes h = record { at = λ i l. h i }
-
 pub two-below : (x : ℕ) → Below 256 (twoBytes x)
-two-below x = below-cons (omega arith) (below-cons (omega arith) (record { at = λ i m. absurd (omega arith) }))
+two-below x = below-cons (omega arith) (below-cons (omega arith) below-none)
 
 -- a mark is two bytes
 mark-below : (digit j : ℕ) → digit < 16 → j < 16 → Below 256 (streamMark digit j)
-mark-below digit j h l = below-cons (omega arith) (below-cons (omega arith) (record { at = λ i m. absurd (omega arith) }))
+mark-below digit j h l = below-cons (omega arith) (below-cons (omega arith) below-none)
 
 pub stream-squeezed : (digit j : ℕ) (inputs : List ℕ) (n : ℕ) → digit < 16 → j < 16 → Below 256 inputs
     → squeezed n (absorbed (fresh digit j) inputs) ≡ shake256 (streamMark digit j ++ inputs) n

@@ -9,18 +9,19 @@
 use mathlib.Core.Path.{_≡_, sym, ap, _∙_, subst}
 use mathlib.Core.List.{List, [], _∷_, _++_, map}
 use Prim.Native.Nat.{ℕ, zero, suc, _+_, _*_, _/_, _^_, _≤_, _<_, zero-le}
-use native.Mathlib.Nat.{mod-lt, mul-div-right, mul-le-mul-left}
+use native.Mathlib.Nat.{mod-lt, mul-div-right}
 use native.Mathlib.Omega.{arith}
 use lib.IntN.{pos, natAbs, _-ℤ_}
-use lib.ListN.{length, getD, drop, length-map, length-drop}
-use lib.Seq.{length-take-le}
+use lib.ListN.{length, getD, length-map}
 use Rattle.whole.specs.Int.{minus-is, abs-le-from}
-use Rattle.whole.specs.Below.{Below, below-tail, below-take, below-drop, below-table, below-more}
+use Rattle.whole.specs.Below.{Below, below-tail, below-table, below-more, below-part}
 use Rattle.whole.specs.Sum.{total}
 use Rattle.whole.specs.Table.{length-table}
+use Rattle.whole.specs.Parts.{part-length}
+use Rattle.whole.specs.Rows.{row-within}
 use Rattle.shake.specs.Sponge.{byteAt}
 use Rattle.shake.specs.Shake256.{shake256, outputByte}
-use Rattle.ring.specs.Sparse.{Signed}
+use Rattle.ring.specs.Sparse.{Signed, Sign}
 use Rattle.sets.specs.declared.Numbers.{Numbers}
 use Rattle.sets.specs.Good.{Good}
 use Rattle.sampling.specs.Candidates.{held, candidates}
@@ -30,7 +31,7 @@ use Rattle.sampling.specs.Streams.{mark, stream, twoBytes, allA, aOf, le
 use Rattle.sampling.specs.CandidatesLaws.{candidates-length, candidates-below}
 use Rattle.sampling.specs.ValuesLaws.{values-length, values-below}
 use Rattle.sampling.specs.FreeLaws.{Distinct}
-use Rattle.sampling.specs.PositionsLaws.{IsSign, positions-length, positions-inside, positions-signs, positions-distinct, drawn-length, drawn-inside, drawn-signs}
+use Rattle.sampling.specs.PositionsLaws.{positions-length, positions-inside, positions-signs, positions-distinct, drawn-length, drawn-inside, drawn-signs}
 use Rattle.sampling.specs.SparseLaws.{sparse-small, sparse-total}
 
 -- ---- SHAKE256
@@ -53,7 +54,7 @@ drawn-enough range need size bits m message h l =
     values-length range need (candidates size bits (shake256 message (size * m)))
     (omega (arith, candidates-length size bits (shake256 message (size * m)), held-stream size m message h))
 
-drawn-below : (range need size bits : ℕ) (bytes : List ℕ) → 2 ^ bits ≤ 2 * range → Below range (values range need (candidates size bits bytes))
+pub drawn-below : (range need size bits : ℕ) (bytes : List ℕ) → 2 ^ bits ≤ 2 * range → Below range (values range need (candidates size bits bytes))
 drawn-below range need size bits bytes h =
     values-below range need (candidates size bits bytes) (below-more (candidates size bits bytes) h (candidates-below size bits bytes))
 
@@ -87,12 +88,11 @@ module _ (s : Numbers) (g : Good s) where
   pub aOf-length : (seedA : List ℕ) (i : ℕ) → i < s .k → length (aOf s seedA i) ≡ s .n
   unfolding aOf
   aOf-length seedA i h =
-      length-take-le (s .n) (drop (s .n * i) (allA s seedA))
-      (omega (arith, length-drop (s .n * i) (allA s seedA), allA-length seedA, mul-le-mul-left (s .n) h))
+      part-length (s .n * i) (s .n) (allA s seedA) (row-within (s .n) (s .k) i (allA s seedA) (allA-length seedA) h)
 
   pub aOf-below : (seedA : List ℕ) (i : ℕ) → Below (s .q) (aOf s seedA i)
   unfolding aOf
-  aOf-below seedA i = below-take (s .q) (s .n) (drop (s .n * i) (allA s seedA)) (below-drop (s .q) (s .n * i) (allA s seedA) (allA-below seedA))
+  aOf-below seedA i = below-part (s .q) (s .n * i) (s .n) (allA s seedA) (allA-below seedA)
 
   -- ---- y
 
@@ -125,7 +125,7 @@ module _ (s : Numbers) (g : Good s) where
       record {
         paired = length-map (encOf s c′) (λ (t : Drawn). t .sign) ∙ sym (length-map (encOf s c′) (λ (t : Drawn). t .position));
         inside = positions-inside (s .n) (s .h) [] (drawnEnc s c′) (drawn-all-inside c′);
-        signs = positions-signs IsSign (s .n) (s .h) [] (drawnEnc s c′) (drawn-signs (s .«position_bits») (stream s 7 c′ (3 * 256)));
+        signs = positions-signs Sign (s .n) (s .h) [] (drawnEnc s c′) (drawn-signs (s .«position_bits») (stream s 7 c′ (3 * 256)));
       }
 
   pub encOf-distinct : (c′ : List ℕ) → Distinct (positionsOf (encOf s c′))

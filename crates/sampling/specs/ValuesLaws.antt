@@ -17,7 +17,7 @@ use lib.Dec.{ltb}
 use lib.IntN.{ℤ, pos, _-ℤ_}
 use lib.ListN.{length, length-append}
 use borrow.Author.Tests.{lt-ltb, le-ltb, ltb-true, ltb-false}
-use Rattle.whole.specs.Below.{Below, below-cons, below-tail}
+use Rattle.whole.specs.Below.{Below, below-cons, below-tail, below-none}
 use Rattle.sampling.specs.Candidates.{emit}
 use Rattle.sampling.specs.Values.{takesValue, reduced, values}
 
@@ -90,8 +90,8 @@ reduced-below range c h = go (ltb c range) refl
 
 pub part-below : (range need later : ℕ) (cs : List ℕ) → Below (2 * range) cs → Below range (part range need later cs)
 unfolding part emit
-part-below range need later [] b = record { at = λ i l. absurd (omega arith) }
-part-below range zero later (c ∷ cs) b = record { at = λ i l. absurd (omega arith) }
+part-below range need later [] b = below-none
+part-below range zero later (c ∷ cs) b = below-none
 part-below range (suc need) later (c ∷ cs) b =
     go (λ m. part-below range m later cs (below-tail b)) (takesValue range (suc need) (length cs + later) c)
   where

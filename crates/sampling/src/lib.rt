@@ -49,14 +49,6 @@ fn wide(b: u8) -> u64
     b as u64
 }
 
-// v mod 2^bits.
-fn low(v: u64, bits: u32) -> u32
-    requires { ⌜ bits ≤ 32 ⌝ }
-    ensures { λ r. ⌜ r ≡ v % 2 ^ bits ⌝ }
-{
-    (v - ((v >> bits) << bits)) as u32
-}
-
 // Candidate j: the low bits of the number that the size bytes from size · j on make, low byte first.
 fn candidate(stretch: &[u8], size: usize, bits: u32, j: usize) -> u32
     requires { ⌜ Width size bits ⌝ }
@@ -70,7 +62,7 @@ fn candidate(stretch: &[u8], size: usize, bits: u32, j: usize) -> u32
         k -= 1;
         v = v * 256 + wide(stretch[from + k]);
     }
-    low(v, bits)
+    packing::low(v, bits)
 }
 
 // ---- values

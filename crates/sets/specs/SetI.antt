@@ -1,5 +1,5 @@
 -- Set I, qTESLA-p-I, and that its numbers are good. Assumes nothing.
-use mathlib.Core.Path.{refl}
+use mathlib.Core.Path.{refl, _≡_}
 use lib.Dec.{lit<, lit≤}
 use Rattle.sets.specs.declared.Numbers.{Numbers}
 use Rattle.sets.specs.Good.{Good}
@@ -52,3 +52,7 @@ setI-good =
       d-fits = lit< tt;
       digit-fits = lit< tt;
     }
+
+-- what the code is handed as set I
+pub good-i : {set : Numbers} → set ≡ setI → Good set
+good-i e = rw e setI-good

@@ -8,22 +8,20 @@
 use mathlib.Core.Path.{_≡_, refl, sym, ap, subst, _∙_}
 use mathlib.Core.Bool.{Bool, true, false, cond}
 use mathlib.Core.List.{List, [], _∷_}
-use mathlib.Core.Logic.{_⊎_, inl, inr, ⊎-elim}
 use Prim.Native.Nat.{ℕ, suc, _+_, _-_, _*_, _/_, _%_, _^_, _≤_, _<_}
 use native.Mathlib.Nat.{add-zero}
 use native.Mathlib.Numerals.{add-one}
 use native.Mathlib.Omega.{arith}
-use borrow.Author.Tests.{lt-ltb, le-ltb, eq-eqb, ne-eqb}
+use borrow.Author.Tests.{le-ltb, eq-eqb, ne-eqb}
 use lib.Bits.{bitXor}
 use lib.ListN.{length, getD, set, drop, drop-of-length-le}
 use lib.Pow.{shl-exact}
 use lib.Seq.{drop-cons, drop-drop, getD-drop}
-use Rattle.whole.specs.Int.{lt-or-le}
 use Rattle.whole.specs.Fill.{filled, filled-none, filled-more, filled-whole, length-filled}
 use Rattle.keccak.specs.Steps.{keccakF}
 use Rattle.shake.specs.declared.Sponge.{Sponge}
 use Rattle.shake.specs.Sponge.{xorAt, byteAt, blank, passed, absorbable, absorbByte, absorbAll, absorbed, ended, squeezable, squeezeNext, bytesOf, stateAfter, squeezed, afterSqueeze}
-use Rattle.shake.specs.Pieces.{length-bytesOf}
+use Rattle.shake.specs.Pieces.{length-bytesOf, sound-passed, sound-absorbable, sound-squeezable}
 
 -- the state by its parts
 abbrev pub state : List ℕ → ℕ → Bool → Sponge
@@ -49,11 +47,7 @@ unfolding passed
 passed-other lanes p q h = rw (ne-eqb (p + 1) 136 h)
 
 passed-near : (lanes next : List ℕ) (p p′ : ℕ) (q : Bool) → p < 136 → passed lanes p q ≡ state next p′ q → p′ < 136
-passed-near lanes next p p′ q h e =
-    subst (λ (s : Sponge). s .place < 136) e
-    (⊎-elim (λ l. rw (passed-other lanes p q (λ d. omega arith)) (omega arith))
-    (λ l. rw (passed-last lanes (keccakF lanes) p q (omega arith) refl) (omega arith))
-    (lt-or-le (p + 1) 136))
+passed-near lanes next p p′ q h e = subst (λ (s : Sponge). s .place < 136) e (sound-passed lanes p q h .within)
 
 -- ---- what an absorb or a squeeze acts on
 
@@ -62,10 +56,6 @@ module _ (s : Sponge) where
   unfolding absorbable
   absorbable-squeezing e = rw e
 
-  pub absorbable-absorbing : s .squeezing ≡ false → s .place < 136 → absorbable s ≡ s
-  unfolding absorbable
-  absorbable-absorbing e h = rw (e, lt-ltb (s .place) 136 h)
-
   pub absorbable-out : 136 ≤ s .place → absorbable s ≡ blank
   unfolding absorbable
   absorbable-out h = rw (le-ltb (s .place) 136 h) (same (s .squeezing))
@@ -73,14 +63,6 @@ module _ (s : Sponge) where
       same : (q : Bool) → cond q blank blank ≡ blank
       same true = refl
       same false = refl
-
-  pub squeezable-squeezing : s .squeezing ≡ true → s .place < 136 → squeezable s ≡ s
-  unfolding squeezable
-  squeezable-squeezing e h = rw (lt-ltb (s .place) 136 h, e)
-
-  pub squeezable-absorbing : s .squeezing ≡ false → s .place < 136 → squeezable s ≡ ended s
-  unfolding squeezable
-  squeezable-absorbing e h = rw (lt-ltb (s .place) 136 h, e)
 
   pub squeezable-out : 136 ≤ s .place → squeezable s ≡ ended blank
   unfolding squeezable
@@ -91,34 +73,6 @@ module _ (s : Sponge) where
       → three ≡ keccakF two → suffix ≡ 0x1F → last ≡ 135 → end ≡ 0x80 → first ≡ 0 → state three first true ≡ ended s
   unfolding ended
   ended-is e₁ e₂ e₃ h₁ h₂ h₃ h₄ = rw (e₃, e₂, e₁, h₁, h₂, h₃, h₄)
-
--- in the block, and squeezing or not
-abbrev Open : Bool → Sponge → Type 0
-Open q s = (s .squeezing ≡ q) × (s .place < 136)
-
-pub blank-open : Open false blank
-unfolding blank
-blank-open = (refl, omega arith)
-
-ended-open : (s : Sponge) → Open true (ended s)
-unfolding ended
-ended-open s = (refl, omega arith)
-
-either : (q : Bool) → (q ≡ true) ⊎ (q ≡ false)
-either true = inl refl
-either false = inr refl
-
-absorbable-open : (s : Sponge) → Open false (absorbable s)
-absorbable-open s =
-    ⊎-elim (λ l. ⊎-elim (λ e. rw (absorbable-squeezing s e) blank-open) (λ e. rw (absorbable-absorbing s e l) (e, l)) (either (s .squeezing)))
-    (λ l. rw (absorbable-out s l) blank-open)
-    (lt-or-le (s .place) 136)
-
-squeezable-open : (s : Sponge) → Open true (squeezable s)
-squeezable-open s =
-    ⊎-elim (λ l. ⊎-elim (λ e. rw (squeezable-squeezing s e l) (e, l)) (λ e. rw (squeezable-absorbing s e l) (ended-open s)) (either (s .squeezing)))
-    (λ l. rw (squeezable-out s l) (ended-open blank))
-    (lt-or-le (s .place) 136)
 
 -- ---- absorbing
 
@@ -146,11 +100,11 @@ module _ {s : Sponge} {bytes lanes : List ℕ} {p i : ℕ} (a : Absorbing s byte
 -- from what an absorb acts on
 module _ (s : Sponge) {r : Sponge} (e : r ≡ absorbable s) (bytes : List ℕ) where
   pub absorbing-none : Absorbing (state (r .lanes) (r .place) false) bytes (r .lanes) (r .place) 0
-  absorbing-none = record { near = rw e (absorbable-open s .1); left = refl }
+  absorbing-none = record { near = rw e (sound-absorbable s .within); left = refl }
 
   pub absorbed-is : {t : Sponge} → t ≡ absorbAll (state (r .lanes) (r .place) false) bytes → t ≡ absorbed s bytes
   unfolding absorbed
-  absorbed-is f = f ∙ ap (λ (t : Sponge). absorbAll t bytes) (state-is (rw e (absorbable-open s .0)) ∙ e)
+  absorbed-is f = f ∙ ap (λ (t : Sponge). absorbAll t bytes) (state-is (rw e (sound-absorbable s .phase)) ∙ e)
 
 -- ---- squeezing
 
@@ -213,10 +167,10 @@ squeezing-one lanes p e g h = (ap (λ (t : ℕ). t ∷ []) e, sym (rw h at (g tr
 -- from what a squeeze acts on
 module _ (s : Sponge) {r : Sponge} (e : r ≡ squeezable s) where
   pub squeezable-near : r .place < 136
-  squeezable-near = rw e (squeezable-open s .1)
+  squeezable-near = rw e (sound-squeezable s .within)
 
   squeezable-is : state (r .lanes) (r .place) true ≡ squeezable s
-  squeezable-is = state-is (rw e (squeezable-open s .0)) ∙ e
+  squeezable-is = state-is (rw e (sound-squeezable s .phase)) ∙ e
 
   pub squeezed-is : (n : ℕ) {bytes : List ℕ} → bytes ≡ bytesOf n (state (r .lanes) (r .place) true) → bytes ≡ squeezed n s
   unfolding squeezed

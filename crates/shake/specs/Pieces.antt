@@ -40,16 +40,20 @@ sound-passed lanes p t h = go (eqb (p + 1) rate) refl
     go true e = record { phase = refl; within = lit< tt }
     go false e = record { phase = refl; within = omega (arith, eqb-false (p + 1) rate e) }
 
+pub sound-blank : Sound false blank
+unfolding blank
+sound-blank = record { phase = refl; within = lit< tt }
+
 -- ---- absorbing
 
 pub sound-absorbable : (s : Sponge) → Sound false (absorbable s)
-unfolding absorbable blank
+unfolding absorbable
 sound-absorbable s = go (s .squeezing) refl (ltb (s .place) rate) refl
   where
     go : (t : Bool) → s .squeezing ≡ t → (u : Bool) → ltb (s .place) rate ≡ u → Sound false (cond t blank (cond u s blank))
-    go true e u f = record { phase = refl; within = lit< tt }
+    go true e u f = sound-blank
     go false e true f = record { phase = e; within = ltb-true (s .place) rate f }
-    go false e false f = record { phase = refl; within = lit< tt }
+    go false e false f = sound-blank
 
 pub sound-absorbAll : (s : Sponge) (bs : List ℕ) → Sound false s → Sound false (absorbAll s bs)
 unfolding absorbAll absorbByte

@@ -12,11 +12,11 @@ use native.Mathlib.Numerals.{add-one}
 use native.Mathlib.Omega.{arith}
 use lib.Bits.{bitXor, xor-zero-r}
 use lib.Dec.{eqb, lit<}
-use lib.ListN.{length, getD, take, drop, replicate, length-append, length-set, length-replicate, getD-replicate, length-take, length-drop, take-append-drop}
+use lib.ListN.{length, getD, take, drop, replicate, length-append, length-set, length-replicate, length-take, length-drop, take-append-drop}
 use lib.Pow.{pow-add, pow-pos}
 use lib.Seq.{set-getD, set-set, getD-set-same, getD-drop, take-all, take-append-le, drop-append-le}
 use borrow.Author.Tests.{eqb-true, eqb-false, ne-eqb}
-use Rattle.whole.specs.Below.{Below, below-tail, below-append, below-cons, below-take, below-drop}
+use Rattle.whole.specs.Below.{Below, below-tail, below-append, below-cons, below-take, below-drop, below-none, below-zeros}
 use Rattle.whole.specs.Bits.{xor-assoc, xor-parts}
 use Rattle.whole.specs.Table.{row, table-is}
 use Rattle.keccak.specs.Steps.{keccakF}
@@ -226,14 +226,8 @@ length-padded message =
 
 below-padding : (r : ℕ) → r < rate → Below 256 (padding r)
 below-padding =
-    padding-cases (λ r pad. Below 256 pad) (below-cons (lit< tt) none)
-    (λ r n e. below-cons (lit< tt) (below-append 256 (replicate n 0) (0x80 ∷ []) (zeros n) (below-cons (lit< tt) none)))
-  where
-    none : Below 256 []
-    none = record { at = λ i l. absurd (not-suc-le-zero l) }
-
-    zeros : (n : ℕ) → Below 256 (replicate n 0)
-    zeros n = record { at = λ i l. rw (getD-replicate {A = ℕ} n i 0 0 (omega (arith, length-zeros n))) (lit< tt) }
+    padding-cases (λ r pad. Below 256 pad) (below-cons (lit< tt) below-none)
+    (λ r n e. below-cons (lit< tt) (below-append 256 (replicate n 0) (0x80 ∷ []) (below-zeros (lit< tt) n) (below-cons (lit< tt) below-none)))
 
 -- a zero changes nothing
 xorAt-zero : (lanes : List ℕ) (p : ℕ) → xorAt lanes p 0 ≡ lanes

@@ -2,10 +2,10 @@
 use mathlib.Core.Path.{sym, subst}
 use mathlib.Core.List.{List, [], _∷_, _++_}
 use mathlib.Core.Logic.{⊎-elim}
-use Prim.Native.Nat.{ℕ, zero, suc, _+_, _≤_, _<_, suc-le-suc}
+use Prim.Native.Nat.{ℕ, zero, suc, _+_, _≤_, _<_, suc-le-suc, _^_}
 use native.Mathlib.Nat.{le-of-suc-le-suc}
 use native.Mathlib.Omega.{arith}
-use lib.ListN.{length, getD, take, drop, length-take, length-drop, List·getD-eq-default}
+use lib.ListN.{length, getD, take, drop, length-take, length-drop, List·getD-eq-default, replicate}
 use lib.Seq.{getD-take, getD-drop}
 use lib.IntN.{ℤ, pos, natAbs}
 use Rattle.whole.specs.Int.{lt-or-le}
@@ -13,6 +13,13 @@ use Rattle.whole.specs.Table.{table, getD-table, length-table, joined}
 
 pub record Below (m : ℕ) (xs : List ℕ) : Type 0 where
   pub at : (i : ℕ) → i < length xs → getD xs i 0 < m
+
+pub below-none : {m : ℕ} → Below m []
+below-none = record { at = λ i l. absurd (omega arith) }
+
+-- bytes, as the code knows them
+pub below-bytes : (xs : List ℕ) → ((i : ℕ) → getD xs i 0 < 2 ^ 8) → Below 256 xs
+below-bytes xs h = record { at = λ i l. h i }
 
 -- past its end a list reads 0
 pub below-any : (m : ℕ) (xs : List ℕ) → 0 < m → Below m xs → (i : ℕ) → getD xs i 0 < m
@@ -40,6 +47,13 @@ below-take m n xs b =
 pub below-drop : (m n : ℕ) (xs : List ℕ) → Below m xs → Below m (drop n xs)
 below-drop m n xs b = record { at = λ i l. rw (getD-drop n xs i 0) (b .at (n + i) (omega (arith, length-drop n xs))) }
 
+pub below-part : (m a n : ℕ) (xs : List ℕ) → Below m xs → Below m (take n (drop a xs))
+below-part m a n xs b = below-take m n (drop a xs) (below-drop m a xs b)
+
+pub below-zeros : {m : ℕ} → 0 < m → (n : ℕ) → Below m (replicate n 0)
+below-zeros h zero = below-none
+below-zeros h (suc n) = below-cons h (below-zeros h n)
+
 pub below-more : {m k : ℕ} (xs : List ℕ) → m ≤ k → Below m xs → Below k xs
 below-more xs h b = record { at = λ i l. omega (arith, b .at i l) }
 
@@ -50,7 +64,7 @@ below-table m n f h =
 
 pub below-joined : (m k : ℕ) (f : ℕ → List ℕ) → ((i : ℕ) → i < k → Below m (f i)) → Below m (joined k f)
 unfolding joined
-below-joined m zero f h = record { at = λ i l. absurd (omega arith) }
+below-joined m zero f h = below-none
 below-joined m (suc k) f h =
     below-append m (joined k f) (f k) (below-joined m k f (λ i l. h i (omega arith))) (h k (omega arith))
 

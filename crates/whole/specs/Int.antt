@@ -5,13 +5,15 @@
 -- Assumes nothing.
 use mathlib.Core.Path.{_≡_, refl, sym, ap, ap₂, subst}
 use Prim.Native.Nat.{ℕ, zero, suc, _+_, _*_, _-_, _≤_, _<_}
-use mathlib.Core.Bool.{Bool, true, false, cond, not}
+use mathlib.Core.Bool.{Bool, true, false, cond, not, true≢false}
 use mathlib.Core.Logic.{_⊎_, inl, inr, ⊎-elim}
 use native.Mathlib.Omega.{arith}
 use native.Mathlib.Decide.{decLt}
+use native.Mathlib.Nat.{le-refl}
 use lib.Dec.{T, ltb, ltb→lt, lt→ltb, leb→le, le→leb, nltb→le}
 use lib.IntN.{ℤ, pos, negsuc, negℤ, natAbs, subℕ, _+ℤ_, _-ℤ_, _*ℤ_}
-use lib.Signed.{_≤ℤ_, _<ℤ_}
+use lib.Signed.{_≤ℤ_, _<ℤ_, ltZ, mag}
+use borrow.Author.Tests.{ltb-true}
 
 -- ---- order is decided
 
@@ -189,6 +191,20 @@ abs-product (pos a) (pos b) = refl
 abs-product (pos a) (negsuc b) = abs-neg (pos (a * suc b))
 abs-product (negsuc a) (pos b) = abs-neg (pos (suc a * b))
 abs-product (negsuc a) (negsuc b) = refl
+
+-- by the sign: as the code tests it
+pub negative-is : (x : ℤ) → ltZ x (pos 0) ≡ true → x ≡ negℤ (pos (natAbs x))
+negative-is (pos n) e = absurd (omega (arith, ltb-true n 0 e))
+negative-is (negsuc n) e = refl
+
+pub not-negative-is : (x : ℤ) → ltZ x (pos 0) ≡ false → x ≡ pos (natAbs x)
+not-negative-is (pos n) e = refl
+not-negative-is (negsuc n) e = absurd (true≢false e)
+
+-- a number and its negation fit where the absolute value does
+pub mag-le : (z : ℤ) → mag z ≤ natAbs z
+mag-le (pos n) = le-refl n
+mag-le (negsuc n) = omega arith
 
 -- |a| is at most n exactly if a is from −n to n
 pub abs-le-to : (a : ℤ) (n : ℕ) → natAbs a ≤ n → (up a ≤ n) × (down a ≤ n)

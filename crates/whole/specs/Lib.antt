@@ -10,6 +10,7 @@ pub mod Below
 pub mod Bits
 pub mod Twos
 pub mod Words
+pub mod Raised
 pub mod Refusal
 pub mod RefusalLaws
 pub mod Determined

@@ -1,5 +1,7 @@
 -- Parts of a list: the m elements from a on, `take m (drop a xs)`, where the list is made of pieces, and the list where it is made of parts.
 --     part-length    its length
+--     part-lent      the part, as code lends it
+--     part-at        its element k
 --     part-first     a part of xs is the same part of xs ++ ys
 --     part-second    a part of ys is a part of xs ++ ys, as much further on as xs is long
 --     part-piece     the middle one of three pieces
@@ -10,15 +12,22 @@
 -- Assumes nothing.
 use mathlib.Core.Path.{_≡_, refl, sym, ap, _∙_}
 use mathlib.Core.List.{List, [], _∷_, _++_}
-use Prim.Native.Nat.{ℕ, zero, suc, _+_, _≤_}
-use native.Mathlib.Nat.{le-of-eq}
+use Prim.Native.Nat.{ℕ, zero, suc, _+_, _≤_, _-_, _<_}
+use native.Mathlib.Nat.{le-of-eq, add-sub-cancel-left}
 use native.Mathlib.Omega.{arith}
-use lib.ListN.{length, take, drop, length-take, length-drop}
-use lib.Seq.{take-all, take-take, take-add, drop-drop, take-append-le, drop-append-le, drop-append-add, take-at, drop-at}
+use lib.ListN.{length, take, drop, length-take, length-drop, getD}
+use lib.Seq.{take-all, take-take, take-add, drop-drop, take-append-le, drop-append-le, drop-append-add, take-at, drop-at, getD-take, getD-drop}
 
 module _ {A : Type 0} where
   pub part-length : (a m : ℕ) (xs : List A) → a + m ≤ length xs → length (take m (drop a xs)) ≡ m
   part-length a m xs h = simp (length-take, length-drop) (omega arith)
+
+  -- as code lends it, from a to a + m
+  pub part-lent : (a m : ℕ) (xs : List A) → take (a + m - a) (drop a xs) ≡ take m (drop a xs)
+  part-lent a m xs = ap (λ (k : ℕ). take k (drop a xs)) (add-sub-cancel-left a m)
+
+  pub part-at : (a m k : ℕ) (xs : List A) (d : A) → k < m → getD (take m (drop a xs)) k d ≡ getD xs (a + k) d
+  part-at a m k xs d h = getD-take m (drop a xs) k d h ∙ getD-drop a xs k d
 
   pub part-first : (a m : ℕ) (xs ys : List A) → a + m ≤ length xs → take m (drop a (xs ++ ys)) ≡ take m (drop a xs)
   part-first a m xs ys h =

@@ -1,8 +1,8 @@
 -- Laws of tests in a row and of the answer that they give.
 --     answer-pass, answer-fail      a first test that passes, and one that does not
 --     answer-first, answer-rest     where the answer is 0 the first test passes, and so do the others
---     answer-before                 a refusal is the answer, whatever follows it
---     after-done, after-refused, output-new, output-kept      an output after the answer 0, and after any other
+--     answer-before, answer-past    a refusal is the answer, whatever follows it; where tests pass, what follows them decides
+--     after-done, after-refused, after-other, output-new, output-kept      an output after the answer 0, and after any other
 --     every-at, every-all           what `every` says of each place
 --     every-append, every-joined    lists in a row
 --     eachBelow-..                  the same of p 0, .., p (k − 1)
@@ -15,13 +15,13 @@ use mathlib.Core.Bool.{Bool, true, false, _&&_, true≢false, and-assoc, and-fal
 use mathlib.Core.List.{List, [], _∷_, _++_, map}
 use mathlib.Core.Logic.{⊎-elim}
 use Prim.Native.Nat.{ℕ, zero, suc, _+_, _≤_, _<_, zero-le}
-use native.Mathlib.Nat.{not-suc-le-zero, le-of-suc-le-suc, zero-lt-suc}
+use native.Mathlib.Nat.{not-suc-le-zero, le-of-suc-le-suc, zero-lt-suc, le-antisymm}
 use native.Mathlib.Numerals.{add-one}
 use native.Mathlib.Omega.{arith}
-use lib.Dec.{eqb, leb}
+use lib.Dec.{eqb, leb, ltb}
 use lib.ListN.{length, getD, drop, drop-of-length-le}
 use lib.Seq.{drop-cons}
-use borrow.Author.Tests.{eqb-true, eq-eqb, ne-eqb, leb-true}
+use borrow.Author.Tests.{eqb-true, eq-eqb, ne-eqb, leb-true, ltb-true}
 use Rattle.whole.specs.Int.{lt-or-le}
 use Rattle.whole.specs.Table.{joined}
 use Rattle.whole.specs.Refusal.{Test, _orElse_, answer, after, every, eachBelow, sameBytes}
@@ -96,6 +96,18 @@ answer-before m (x ∷ xs) ys e = go (answer-before m xs ys) (x .passes) e
     go rest true h = rest h
     go rest false h = h
 
+-- where the first tests pass, those that follow them decide
+pub answer-past : (xs ys : List Test) → every (λ (t : Test). ltb 0 (t .number)) xs ≡ true → answer xs ≡ 0 → answer (xs ++ ys) ≡ answer ys
+unfolding answer every
+answer-past [] ys n e = refl
+answer-past (x ∷ xs) ys n e =
+    go (answer-past xs ys (both-second (ltb 0 (x .number)) (every (λ (t : Test). ltb 0 (t .number)) xs) n)) (x .passes) e
+  where
+    go : (answer xs ≡ 0 → answer (xs ++ ys) ≡ answer ys) → (b : Bool) → cond b (answer xs) (x .number) ≡ 0 → cond b (answer (xs ++ ys)) (x .number) ≡ answer ys
+    go rest true h = rest h
+    go rest false h =
+        absurd (omega (arith, ltb-true 0 (x .number) (both-first (ltb 0 (x .number)) (every (λ (t : Test). ltb 0 (t .number)) xs) n)))
+
 -- ---- each of p 0, .., p (k − 1)
 
 pub eachBelow-none : (p : ℕ → Bool) → eachBelow 0 p ≡ true
@@ -121,6 +133,10 @@ unfolding eachBelow
 eachBelow-all zero p h = refl
 eachBelow-all (suc k) p h = both (eachBelow-all k p (λ i l. h i (omega arith))) (h k (omega arith))
 
+-- a loop that has come to its end
+pub eachBelow-end : {i k : ℕ} (p : ℕ → Bool) → i ≤ k → k ≤ i → eachBelow i p ≡ true → eachBelow k p ≡ true
+eachBelow-end p l m e = ap (λ (j : ℕ). eachBelow j p) (le-antisymm m l) ∙ e
+
 -- one does not pass
 pub eachBelow-fails : (k i : ℕ) (p : ℕ → Bool) → i < k → p i ≡ false → eachBelow k p ≡ false
 eachBelow-fails k i p l e = go (eachBelow k p) refl
@@ -145,6 +161,14 @@ module _ {A : Type 0} where
   pub after-refused : {number : ℕ} (m : ℕ) (new old : A) → number ≡ suc m → after number new old ≡ old
   unfolding after
   after-refused m new old e = rw e
+
+  -- any number but 0 is a refusal
+  pub after-other : {number : ℕ} (new old : A) → (number ≡ 0 → ⊥) → after number new old ≡ old
+  after-other {number} new old h = go number h
+    where
+      go : (n : ℕ) → (n ≡ 0 → ⊥) → after n new old ≡ old
+      go zero k = absurd (k refl)
+      go (suc m) k = after-refused m new old refl
 
   -- what an output holds is what it has to hold: done, and refused
   pub output-new : {number : ℕ} {out new : A} (old : A) → 0 ≡ number → out ≡ new → out ≡ after number new old
@@ -187,16 +211,6 @@ module _ {A : Type 0} where
   split : (p : A → Bool) (xs : List A) (i : ℕ) (d : A) → i < length xs → every p (drop i xs) ≡ (p (getD xs i d) && every p (drop (i + 1) xs))
   unfolding every
   split p xs i d l = rw (add-one, drop-cons xs i d l)
-
-  pub every-pass : (p : A → Bool) (xs : List A) (i : ℕ) (d : A) → i < length xs → p (getD xs i d) ≡ true → every p (drop i xs) ≡ every p (drop (i + 1) xs)
-  every-pass p xs i d l e = split p xs i d l ∙ rw e
-
-  pub every-fail : (p : A → Bool) (xs : List A) (i : ℕ) (d : A) → i < length xs → p (getD xs i d) ≡ false → every p (drop i xs) ≡ false
-  every-fail p xs i d l e = split p xs i d l ∙ rw e
-
-  pub every-end : (p : A → Bool) (xs : List A) (i : ℕ) (d : A) → length xs ≤ i → every p (drop i xs) ≡ true
-  unfolding every
-  every-end p xs i d l = rw (drop-of-length-le xs l)
 
   module _ {p : A → Bool} {xs : List A} {i : ℕ} (s : Passing p xs i) where
     pub passing-more : {next : ℕ} (d : A) → i < length xs → p (getD xs i d) ≡ true → next ≡ i + 1 → Passing p xs next

@@ -2,7 +2,7 @@
 -- Assumes nothing.
 use mathlib.Core.Path.{_≡_, refl, sym, ap, subst, _∙_}
 use Prim.Native.Nat.{ℕ, zero, suc, _+_, _*_, _-_, _/_, _%_, _<_}
-use native.Mathlib.Nat.{mod-lt, mod-add-div, mod-eq-of-lt}
+use native.Mathlib.Nat.{mod-lt, mod-add-div, mod-eq-of-lt, mul-one}
 use native.Mathlib.Omega.{arith}
 use lib.IntN.{ℤ, pos, negsuc, negℤ, _+ℤ_, _-ℤ_, _*ℤ_, *ℤ-zero, +ℤ-idr}
 use Rattle.whole.specs.Int.{up, int, sum-is, up-neg, down-neg, as-difference, differences, difference-same}
@@ -87,6 +87,10 @@ same-mul {q} {a} {b} {c} {d} s t =
 -- a multiple of q more or less is congruent
 pub same-more : (q : ℕ) (a t : ℤ) → Same q (a +ℤ pos q *ℤ t) a
 same-more q a t = record { times = t; is = refl }
+
+-- q less
+pub same-back : (q : ℕ) (a : ℤ) → Same q (a -ℤ pos q) a
+same-back q a = record { times = negsuc 0; is = ap (λ (t : ℕ). a +ℤ negℤ (pos t)) (sym (mul-one q)) }
 
 -- ---- residues
 

@@ -3,13 +3,14 @@
 use mathlib.Core.Path.{_≡_, refl, sym, ap, ap₂, _∙_}
 use mathlib.Core.List.{List, [], _∷_, _++_, map, append-nil, append-assoc}
 use Prim.Native.Nat.{ℕ, zero, suc, _+_, _≤_, _<_, _*_}
-use native.Mathlib.Nat.{add-zero, zero-add, le-of-suc-le-suc, not-suc-le-zero, le-refl, zero-mul, suc-mul, mul-suc, mul-comm, mul-le-mul-left, le-of-eq, add-suc}
+use native.Mathlib.Nat.{add-zero, zero-add, le-of-suc-le-suc, not-suc-le-zero, le-refl, zero-mul, suc-mul, mul-comm, le-of-eq, add-suc}
 use native.Mathlib.Omega.{arith}
 use lib.ListN.{length, getD, drop, length-append, take}
 use lib.Seq.{ext-getD, take-all, take-add}
 use mathlib.Core.Logic.{⊎-elim}
 use Rattle.whole.specs.Int.{lt-or-le}
 use Rattle.whole.specs.Parts.{part-first, part-last}
+use Rattle.whole.specs.Rows.{row-fits}
 
 module _ {A : Type 0} where
   -- f i, f (i + 1), .. : n of them
@@ -95,15 +96,12 @@ module _ {A : Type 0} where
   joined-part zero m i f h l = absurd (not-suc-le-zero l)
   joined-part (suc k) m i f h l =
       ⊎-elim
-      (λ lt. part-first (m * i) m (joined k f) (f k) (rw long (fits lt)) ∙ joined-part k m i f (λ j r. h j (omega arith)) lt)
+      (λ lt. part-first (m * i) m (joined k f) (f k) (rw long (row-fits m k i lt)) ∙ joined-part k m i f (λ j r. h j (omega arith)) lt)
       (λ le. rw (same le) (part-last (m * k) m (joined k f) (f k) (long ∙ mul-comm k m) (h k (le-refl (suc k)))))
       (lt-or-le i k)
     where
       long : length (joined k f) ≡ k * m
       long = joined-length k m f (λ j r. h j (omega arith))
-
-      fits : i < k → m * i + m ≤ k * m
-      fits lt = omega (arith, mul-le-mul-left m lt, mul-suc m i, mul-comm k m)
 
       same : k ≤ i → i ≡ k
       same le = omega arith

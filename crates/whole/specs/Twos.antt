@@ -1,16 +1,19 @@
 -- Two's complement at b bits: the number that b bits stand for, and the bits of a number, with the round trips.
 -- Assumes nothing.
-use mathlib.Core.Path.{_≡_, sym, ap, _∙_}
+use mathlib.Core.Path.{_≡_, ap, _∙_}
 use mathlib.Core.Bool.{cond}
 use Prim.Native.Nat.{ℕ, zero, suc, _*_, _-_, _^_, _≤_, _<_}
 use mathlib.Core.Logic.{_⊎_, inl, inr, ⊎-elim}
-use native.Mathlib.Nat.{pow-succ', mod-eq-of-lt, mul-one}
+use mathlib.Core.List.{List, [], _∷_, map}
+use native.Mathlib.Nat.{pow-succ', mod-eq-of-lt}
 use native.Mathlib.Omega.{arith}
 use lib.Dec.{ltb}
-use lib.IntN.{ℤ, pos, negsuc, negℤ, natAbs, _+ℤ_, _-ℤ_}
+use lib.IntN.{ℤ, pos, negsuc, natAbs, _-ℤ_}
+use lib.Pow.{pow-pos}
 use borrow.Author.Tests.{lt-ltb, le-ltb}
 use Rattle.whole.specs.Int.{up, down, int, minus-is, abs-is, one-part, lt-or-le, less-one}
-use Rattle.whole.specs.Residue.{residue, residue-is, residue-small, Same}
+use Rattle.whole.specs.Residue.{residue, residue-is, residue-small, residue-lt, same-back}
+use Rattle.whole.specs.Below.{Below, below-none, below-cons}
 
 -- b bits with the value x: x itself below 2^(b − 1), and x − 2^b from there on
 unfoldable pub signed : ℕ → ℕ → ℤ
@@ -54,11 +57,8 @@ signed-twos b (negsuc a) h r = rw (twos-below b a fits) (signed-high b (2 ^ b - 
 
 pub twos-signed : (b x : ℕ) → 0 < b → x < 2 ^ b → twos b (signed b x) ≡ x
 twos-signed b x h l =
-    ⊎-elim (λ lt. rw (signed-low b x lt) (residue-small (2 ^ b) x l)) (λ le. rw (signed-high b x le) (residue-is (2 ^ b) x (pos x -ℤ pos (2 ^ b)) l less))
+    ⊎-elim (λ lt. rw (signed-low b x lt) (residue-small (2 ^ b) x l)) (λ le. rw (signed-high b x le) (residue-is (2 ^ b) x (pos x -ℤ pos (2 ^ b)) l (same-back (2 ^ b) (pos x))))
     (lt-or-le x (2 ^ (b - 1)))
-  where
-    less : Same (2 ^ b) (pos x -ℤ pos (2 ^ b)) (pos x)
-    less = record { times = negsuc 0; is = ap (λ (t : ℕ). pos x +ℤ negℤ (pos t)) (sym (mul-one (2 ^ b))) }
 
 -- what b bits stand for is in their range
 pub signed-range : (b x : ℕ) → 0 < b → x < 2 ^ b → InBits b (signed b x)
@@ -77,6 +77,20 @@ signed-range b x h l =
         }
     negative le (inr e) = absurd (omega (arith, minus-is (pos x) (pos (2 ^ b)), halves b h))
 
+-- |x| of what b bits stand for: the bits themselves without the sign, and what they lack to 2^b with it
+pub size-low : (b x : ℕ) → x < 2 ^ (b - 1) → natAbs (signed b x) ≡ x
+size-low b x l = ap natAbs (signed-low b x l)
+
+pub size-high : (b x : ℕ) → x < 2 ^ b → 2 ^ (b - 1) ≤ x → natAbs (signed b x) ≡ 2 ^ b - x
+size-high b x h l = ap natAbs (signed-high b x l) ∙ go (one-part y)
+  where
+    y : ℤ
+    y = pos x -ℤ pos (2 ^ b)
+
+    go : (up y ≡ 0) ⊎ (down y ≡ 0) → natAbs y ≡ 2 ^ b - x
+    go (inl e) = omega (arith, abs-is y, minus-is (pos x) (pos (2 ^ b)))
+    go (inr e) = omega (arith, abs-is y, minus-is (pos x) (pos (2 ^ b)))
+
 -- a signed byte is at most 128 in size
 pub signed-size : (b : ℕ) → b < 2 ^ 8 → natAbs (signed 8 b) ≤ 128
 signed-size b l =
@@ -84,3 +98,8 @@ signed-size b l =
   where
     r : InBits 8 (signed 8 b)
     r = signed-range 8 b (omega arith) l
+
+-- the bits of each number of a list
+pub twos-all-below : (b : ℕ) (zs : List ℤ) → Below (2 ^ b) (map (twos b) zs)
+twos-all-below b [] = below-none
+twos-all-below b (z ∷ zs) = below-cons (residue-lt (2 ^ b) z (pow-pos b)) (twos-all-below b zs)

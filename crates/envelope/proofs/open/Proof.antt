@@ -1,9 +1,9 @@
 -- `envelope::open` meets its contract: the tests of the head, then checking. Assumes nothing.
 use mathlib.Core.Path.{sym, ap, _∙_}
 use borrow.Author.Needs.{needs}
+use Rattle.sets.specs.SetI.{good-i}
 use Rattle.envelope.specs.Answers.{readEnvelopeNumber}
 use Rattle.envelope.proofs.HeadLaws.{head-parts}
-use Rattle.envelope.proofs.ReadLaws.{good-i}
 use Rattle.envelope.proofs.OpenLaws.{open-refused, open-answered}
 use Rattle.envelope.proofs.open.Statement.{statement}
 use Rattle.envelope.proofs.open.Tie as tie

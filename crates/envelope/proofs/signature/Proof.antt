@@ -1,6 +1,7 @@
 -- `envelope::signature` meets its contract: it is `signature_in` with set I's numbers. Assumes nothing.
-use Rattle.envelope.proofs.ReadLaws.{good-i, signature-i}
+use Rattle.envelope.proofs.ReadLaws.{signature-i}
 use borrow.Author.Needs.{needs}
+use Rattle.sets.specs.SetI.{good-i}
 use Rattle.envelope.proofs.signature.Statement.{statement}
 use Rattle.envelope.proofs.signature.Tie as tie
 

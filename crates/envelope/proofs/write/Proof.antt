@@ -1,6 +1,7 @@
 -- `envelope::write` meets its contract: it is `write_in` with set I's numbers. Assumes nothing.
 use mathlib.Core.Path.{refl}
-use Rattle.envelope.proofs.WriteLaws.{room-i, wrote-i}
+use Rattle.records.specs.SignatureLaws.{room-i}
+use Rattle.envelope.proofs.WriteLaws.{wrote-i}
 use borrow.Author.Needs.{needs}
 use Rattle.envelope.proofs.write.Statement.{statement}
 use Rattle.envelope.proofs.write.Tie as tie

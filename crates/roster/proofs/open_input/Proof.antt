@@ -3,7 +3,8 @@ use mathlib.Core.Path.{sym}
 use native.Mathlib.Omega.{arith}
 use lib.Seq.{length-take-le}
 use borrow.Author.Needs.{needs}
-use Rattle.roster.proofs.Laws.{good-i, too-short, opened}
+use Rattle.sets.specs.SetI.{good-i}
+use Rattle.roster.proofs.Laws.{too-short, opened}
 use Rattle.roster.proofs.open_input.Statement.{statement}
 use Rattle.roster.proofs.open_input.Tie as tie
 

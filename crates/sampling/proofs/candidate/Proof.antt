@@ -4,7 +4,7 @@ use Prim.Native.Nat.{ℕ, _+_, _-_, _*_, _%_, _^_, _≤_, _<_}
 use mathlib.Core.Path.{ap, _∙_}
 use native.Mathlib.Omega.{arith}
 use lib.ListN.{length}
-use Rattle.whole.specs.Below.{Below}
+use Rattle.whole.specs.Below.{Below, below-bytes}
 use Rattle.sampling.proofs.CandidateSteps.{held-room, Reading, reading-none, reading-more, reading-small, reading-all}
 use Rattle.sampling.proofs.candidate.Statement.{statement}
 use Rattle.sampling.proofs.candidate.Tie as tie
@@ -20,7 +20,7 @@ room : (c : tie.Start Inv-loop μ-loop) → c .args .size * c .args .j + c .args
 room c = held-room (c .args .size) (c .args .j) (c .args .stretch .now) (c .pre .1)
 
 bytes : (c : tie.After-shared-slice-known Inv-loop μ-loop) → Below 256 (c .before .args .stretch .now)
-bytes c = record { at = λ i l. c .shared-slice-known .given i .fits }
+bytes c = below-bytes _ (λ i. c .shared-slice-known .given i .fits)
 
 small : (c : tie.At-loop Inv-loop μ-loop) → c .loop .v < 2 ^ 32
 small c =

@@ -2,21 +2,17 @@
 -- Assumes nothing.
 use mathlib.Core.Path.{_≡_, ap₂, _∙_}
 use Prim.Native.Nat.{_≤_, _<_, _^_}
-use native.Mathlib.Nat.{le-refl}
 use native.Mathlib.Omega.{arith}
-use lib.IntN.{ℤ, pos, negsuc, natAbs, _-ℤ_}
+use lib.IntN.{pos, _-ℤ_}
 use lib.Signed.{mag}
 use mir.Syntax.{w64}
 use mir.Val.{toZ}
 use mir.Facts.{toZ-pos, toZ-ofZ}
 use borrow.Author.Needs.{needs, sfits-of}
+use Rattle.whole.specs.Int.{mag-le}
 use Rattle.sampling.specs.StreamsLaws.{less-small}
 use Rattle.sampling.proofs.less.Statement.{statement}
 use Rattle.sampling.proofs.less.Tie as tie
-
-mag-le : (z : ℤ) → mag z ≤ natAbs z
-mag-le (pos n) = le-refl n
-mag-le (negsuc n) = omega arith
 
 -- both are read as they are
 read : (c : tie.Start) → toZ w64 (c .args .v) -ℤ toZ w64 (c .args .b) ≡ pos (c .args .v) -ℤ pos (c .args .b)

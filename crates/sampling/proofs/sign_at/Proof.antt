@@ -1,14 +1,14 @@
 -- `sign_at` meets its contract. Assumes nothing.
 use mathlib.Core.Path.{sym}
 use native.Mathlib.Omega.{arith}
-use Rattle.whole.specs.Below.{Below}
+use Rattle.whole.specs.Below.{Below, below-bytes}
 use Rattle.sampling.proofs.PositionSteps.{sign-set, sign-clear}
 use borrow.Author.Needs.{needs}
 use Rattle.sampling.proofs.sign_at.Statement.{statement}
 use Rattle.sampling.proofs.sign_at.Tie as tie
 
 bytes : (c : tie.After-shared-slice-known) → Below 256 (c .before .args .stretch .now)
-bytes c = record { at = λ i l. c .shared-slice-known .given i .fits }
+bytes c = below-bytes _ (λ i. c .shared-slice-known .given i .fits)
 
 mul-if1 : tie.Need-mul-if1
 mul-if1 c = search needs

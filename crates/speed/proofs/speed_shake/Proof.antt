@@ -3,6 +3,7 @@
 use mathlib.Core.Path.{ap, _∙_}
 use borrow.Author.Needs.{needs}
 use lib.ListN.{length}
+use Rattle.whole.specs.Below.{below-bytes}
 use Rattle.shake.specs.declared.Sponge.{Sponge}
 use Rattle.shake.specs.Sponge.{absorbed, squeezed}
 use Rattle.shake.specs.Whole.{shake}
@@ -29,7 +30,7 @@ returns c =
     let absorbs = c .before .before .before .before in
     c .before .before .squeeze .ensures .1
     ∙ ap (squeezed n) (absorbs .absorb .ensures ∙ ap (λ (s : Sponge). absorbed s m) (absorbs .before .blank .ensures))
-    ∙ shake m n (record { at = λ i l. c .before .before .before .before .before .before .before .shared-slice-known .given i .fits })
+    ∙ shake m n (below-bytes _ (λ i. c .before .before .before .before .before .before .before .shared-slice-known .given i .fits))
 
 pub speed-shake-spec : {M : Type 1} → statement M
 speed-shake-spec =

@@ -1,5 +1,6 @@
 -- `envelope::parts::stretch_of` meets its contract. Assumes nothing.
-use Rattle.envelope.proofs.PartLaws.{stretch-inside, stretch-ends, stretch-none}
+use Rattle.whole.specs.Parts.{part-lent}
+use Rattle.envelope.proofs.PartLaws.{stretch-ends, stretch-none}
 use borrow.Author.Needs.{needs}
 use Rattle.envelope.proofs.parts.stretch_of.Statement.{statement}
 use Rattle.envelope.proofs.parts.stretch_of.Tie as tie
@@ -34,7 +35,7 @@ slice-aggregate-result c = search needs
 returns : tie.Need-returns
 returns c =
     let a = c .before .before .before .args in
-    stretch-inside (a .start) (a .size) (a .bytes .now)
+    part-lent (a .start) (a .size) (a .bytes .now)
 
 returns-2 : tie.Need-returns-2
 returns-2 c =

@@ -3,6 +3,7 @@
 use mathlib.Core.Path.{refl, ap, _∙_}
 use borrow.Author.Needs.{needs}
 use lib.ListN.{length}
+use Rattle.whole.specs.Below.{below-bytes}
 use Rattle.shake.specs.declared.Sponge.{Sponge}
 use Rattle.shake.specs.Sponge.{absorbed, squeezed}
 use Rattle.shake.specs.Whole.{shake}
@@ -30,7 +31,7 @@ returns c =
       refl,
       c .before .before .squeeze .ensures .1
           ∙ ap (squeezed n) (absorbs .absorb .ensures ∙ ap (λ (s : Sponge). absorbed s m) (absorbs .before .blank .ensures))
-          ∙ shake m n (record { at = λ i l. c .before .before .before .before .before .before .before .shared-slice-known .given i .fits }),
+          ∙ shake m n (below-bytes _ (λ i. c .before .before .before .before .before .before .before .shared-slice-known .given i .fits)),
     )
 
 pub maesikkong-shake256-spec : {M : Type 1} → statement M

@@ -1,7 +1,8 @@
 -- `read_signature` meets its contract: it is `read_in` with set I's numbers. Assumes nothing.
 use mathlib.Core.Path.{refl}
 use borrow.Author.Needs.{needs}
-use Rattle.records.proofs.SignatureEntries.{room-i, read-i}
+use Rattle.records.specs.SignatureLaws.{room-i}
+use Rattle.records.proofs.SignatureEntries.{read-i}
 use Rattle.records.proofs.signature.read_signature.Statement.{statement}
 use Rattle.records.proofs.signature.read_signature.Tie as tie
 

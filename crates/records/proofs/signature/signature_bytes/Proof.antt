@@ -1,7 +1,7 @@
 -- `signature_bytes` meets its contract. Assumes nothing.
 use native.Mathlib.Omega.{arith}
 use borrow.Author.Needs.{needs}
-use Rattle.records.proofs.SignatureSizes.{zBytes-few}
+use Rattle.records.specs.SizeLaws.{zBytes-few}
 use Rattle.records.proofs.signature.signature_bytes.Statement.{statement}
 use Rattle.records.proofs.signature.signature_bytes.Tie as tie
 

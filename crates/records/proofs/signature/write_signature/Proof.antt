@@ -1,7 +1,8 @@
 -- `write_signature` meets its contract: it is `write_in` with set I's numbers. Assumes nothing.
 use mathlib.Core.Path.{refl}
 use borrow.Author.Needs.{needs}
-use Rattle.records.proofs.SignatureEntries.{room-i, wrote-i}
+use Rattle.records.specs.SignatureLaws.{room-i}
+use Rattle.records.proofs.SignatureEntries.{wrote-i}
 use Rattle.records.proofs.signature.write_signature.Statement.{statement}
 use Rattle.records.proofs.signature.write_signature.Tie as tie
 

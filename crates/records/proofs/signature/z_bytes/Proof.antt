@@ -1,7 +1,7 @@
 -- `z_bytes` meets its contract. Assumes nothing.
 use native.Mathlib.Omega.{arith}
 use borrow.Author.Needs.{needs}
-use Rattle.records.proofs.SignatureSizes.{z-bits-few}
+use Rattle.records.specs.SizeLaws.{z-bits-few}
 use Rattle.records.proofs.signature.z_bytes.Statement.{statement}
 use Rattle.records.proofs.signature.z_bytes.Tie as tie
 

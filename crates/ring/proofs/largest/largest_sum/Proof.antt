@@ -1,6 +1,7 @@
 -- `ring::largest::largest_sum` meets its contract. Assumes nothing.
 use borrow.Author.Needs.{needs}
 use mathlib.Core.Path.{ap, _∙_}
+use Rattle.whole.specs.Below.{below-bytes}
 use Rattle.ring.specs.Largest.{added}
 use Rattle.ring.proofs.Places.{addable}
 use Rattle.ring.proofs.largest.largest_sum.Statement.{statement}
@@ -12,7 +13,7 @@ pick-requires c κs = search needs
 add-up-requires : tie.Need-add-up-requires
 add-up-requires c κs =
     let start = c .before .before .before .before .before .before .before in
-    addable {old = start .args .slots .now} {e = start .args .e .now} (start .pre) (record { at = λ i l. c .before .before .before .before .before .before .shared-slice-known .given i .fits }) (c .before .before .before .pick .ensures)
+    addable {old = start .args .slots .now} {e = start .args .e .now} (start .pre) (below-bytes _ (λ i. c .before .before .before .before .before .before .shared-slice-known .given i .fits)) (c .before .before .before .pick .ensures)
 
 same-length : tie.Need-same-length
 same-length c = search needs

@@ -6,7 +6,7 @@ use mir.Syntax.{w32}
 use mir.Val.{toZ, ofZ}
 use mir.Facts.{toZ-ofZ}
 use Rattle.whole.specs.Twos.{signed}
-use Rattle.ring.proofs.Numbers.{size-small}
+use Rattle.whole.specs.Twos.{signed-size}
 use Rattle.ring.proofs.sums.plus_byte.Statement.{statement}
 use Rattle.ring.proofs.sums.plus_byte.Tie as tie
 
@@ -17,7 +17,7 @@ is : (c : tie.After-signed-byte) → toZ w32 (ofZ w32 (c .signed-byte .result)) 
 is c = toZ-ofZ (sfits-of (c .signed-byte .ok)) ∙ c .signed-byte .ensures
 
 plus-requires : tie.Need-plus-requires
-plus-requires c κs = rw (is c) (record { small = c .before .pre .small; residue = c .before .pre .residue; near = omega (arith, size-small (c .before .args .b) (omega arith)) })
+plus-requires c κs = rw (is c) (record { small = c .before .pre .small; residue = c .before .pre .residue; near = omega (arith, signed-size (c .before .args .b) (omega arith)) })
 
 returns : tie.Need-returns
 returns c = c .plus .ensures ∙ rw (is (c .before))

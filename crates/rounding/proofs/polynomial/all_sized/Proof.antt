@@ -1,25 +1,24 @@
--- `rounding::polynomial::all_sized` meets its contract. The loop's invariant: what every coefficient from j on says, all of them say.
+-- `rounding::polynomial::all_sized` meets its contract. The loop's invariant: the coefficients before j pass.
 -- The measure is the number of those left. Assumes nothing.
-use mathlib.Core.Path.{_≡_, refl, sym, _∙_}
+use mathlib.Core.Path.{refl, sym, _∙_}
 use Prim.Native.Nat.{_-_}
 use native.Mathlib.Omega.{arith}
 use borrow.Author.Tests.{not-true, not-false}
-use lib.ListN.{length, drop}
+use lib.ListN.{length}
 use lib.IntN.{pos}
-use Rattle.whole.specs.Refusal.{every}
-use Rattle.whole.specs.RefusalLaws.{every-pass, every-fail, every-end}
+use Rattle.whole.specs.RefusalLaws.{Passing, passing-none, passing-more, passing-fails, passing-all}
 use Rattle.rounding.specs.Tests.{sizePasses}
 use Rattle.rounding.proofs.polynomial.all_sized.Statement.{statement}
 use Rattle.rounding.proofs.polynomial.all_sized.Tie as tie
 
 abbrev Inv-loop : tie.InvT-loop
-Inv-loop w q bound j₀ j = every (λ x. sizePasses q bound (pos x)) w ≡ every (λ x. sizePasses q bound (pos x)) (drop j w)
+Inv-loop w q bound j₀ j = Passing (λ x. sizePasses q bound (pos x)) w j
 
 abbrev μ-loop : tie.MeasureT-loop
 μ-loop w q bound j₀ j = length w - j
 
 loop-holds : tie.Need-loop-holds Inv-loop μ-loop
-loop-holds c = refl
+loop-holds c = passing-none _ _
 
 mul-size-passes : tie.Need-mul-size-passes Inv-loop μ-loop
 mul-size-passes c = omega arith
@@ -35,7 +34,7 @@ size-passes-requires c κs =
 returns : tie.Need-returns Inv-loop μ-loop
 returns c =
     let l = c .before .before .before .before in
-    sym (l .loop .inv ∙ every-fail _ _ (l .loop .j) 0 (c .before .before .before .loop-test .taken) (sym (c .before .size-passes .ensures) ∙ not-true _ (c .if1 .taken)))
+    passing-fails (l .loop .inv) 0 (c .before .before .before .loop-test .taken) (sym (c .before .size-passes .ensures) ∙ not-true _ (c .if1 .taken))
 
 add-j : tie.Need-add-j Inv-loop μ-loop
 add-j c = omega arith
@@ -46,10 +45,10 @@ loop-less c = omega arith
 loop-again : tie.Need-loop-again Inv-loop μ-loop
 loop-again c =
     let l = c .before .before .before .before in
-    l .loop .inv ∙ every-pass _ _ (l .loop .j) 0 (c .before .before .before .loop-test .taken) (sym (c .before .size-passes .ensures) ∙ not-false _ (c .if1 .left))
+    passing-more (l .loop .inv) 0 (c .before .before .before .loop-test .taken) (sym (c .before .size-passes .ensures) ∙ not-false _ (c .if1 .left)) refl
 
 returns-2 : tie.Need-returns-2 Inv-loop μ-loop
-returns-2 c = sym (c .before .loop .inv ∙ every-end _ _ (c .before .loop .j) 0 (c .loop-test .left))
+returns-2 c = passing-all (c .before .loop .inv) (c .loop-test .left)
 
 pub all-sized-spec : {M : Type 1} → statement M
 all-sized-spec =

@@ -1,31 +1,31 @@
--- `rounding::polynomial::byte_of` meets its contract. Assumes nothing.
+-- `rounding::polynomial::byte_of` meets its contract: 2^31, a multiple of 256, is added in an i64, so that the byte is that of a number
+-- that is not negative. Assumes nothing.
+use mathlib.Core.Path.{refl}
 use borrow.Author.Needs.{needs}
-use mathlib.Core.Path.{ap, _∙_, subst⁻¹}
-use native.Mathlib.Omega.{arith}
-use Prim.Native.Nat.{_%_}
-use lib.IntN.{natAbs, ℤ}
-use mir.Syntax.{w64}
-use mir.Val.{SFits}
-use mir.Facts.{toZ-ofZ}
+use lib.Dec.{lit<, lit≤}
+use mir.Syntax.{w32, w64}
 use Rattle.whole.specs.Words.{wide-i32}
-use Rattle.rounding.proofs.Bytes.{raised-is, raised-fits, raised-byte}
+use Rattle.whole.specs.Raised.{Raises, sum-fits, sum-cast, sum-residue}
 use Rattle.rounding.proofs.polynomial.byte_of.Statement.{statement}
 use Rattle.rounding.proofs.polynomial.byte_of.Tie as tie
+
+in-64 : Raises w32 w64 2147483648
+in-64 = record { wider = tt; over = lit≤ tt; room = lit≤ tt }
 
 cast-result : tie.Need-cast-result
 cast-result c = wide-i32 (c .fits .h)
 
 add-result : tie.Need-add-result
-add-result c = subst⁻¹ (SFits w64) (raised-is (c .fits .h)) (record { sfits = omega (arith, raised-fits (c .fits .h)) })
+add-result c = sum-fits in-64 (c .fits .h)
 
 cast-result-2 : tie.Need-cast-result-2
-cast-result-2 c = rw (toZ-ofZ (add-result c), raised-is (c .fits .h)) (tt, record { fits = raised-fits (c .fits .h) })
+cast-result-2 c = sum-cast in-64 (c .fits .h) w32 (lit≤ tt)
 
 cast-result-3 : tie.Need-cast-result-3
 cast-result-3 c = search needs
 
 returns : tie.Need-returns
-returns c = ap (λ (x : ℤ). natAbs x % 256) (toZ-ofZ (add-result c) ∙ raised-is (c .fits .h)) ∙ raised-byte (c .fits .h)
+returns c = sum-residue in-64 (c .fits .h) 256 8388608 (lit< tt) refl
 
 pub byte-of-spec : {M : Type 1} → statement M
 byte-of-spec = tie.close (tie.spec cast-result add-result cast-result-2 cast-result-3 returns)

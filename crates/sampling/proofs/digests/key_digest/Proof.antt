@@ -2,8 +2,9 @@
 use mathlib.Core.Path.{_∙_}
 use native.Mathlib.Omega.{arith}
 use Rattle.sampling.specs.Streams.{keyDigest}
-use Rattle.sampling.specs.SpongeLaws.{stream-squeezed, bytes-below}
+use Rattle.sampling.specs.SpongeLaws.{stream-squeezed}
 use borrow.Author.Needs.{needs}
+use Rattle.whole.specs.Below.{below-bytes}
 use Rattle.sampling.proofs.digests.key_digest.Statement.{statement}
 use Rattle.sampling.proofs.digests.key_digest.Tie as tie
 
@@ -27,7 +28,7 @@ returns c =
     c .before .before .squeeze .ensures .1
     ∙ rw (start .pre .long, c .before .before .before .before .absorb .ensures, c .before .before .before .before .before .fresh-state .ensures)
     (stream-squeezed (start .args .set .digit) 5 (start .args .packed-t .now) 40 (start .pre .good .digit-fits) (omega arith)
-    (bytes-below _ (λ i. known i .fits)))
+    (below-bytes _ (λ i. known i .fits)))
 
 pub key-digest-spec : {M : Type 1} → statement M
 key-digest-spec =

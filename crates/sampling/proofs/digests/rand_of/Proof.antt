@@ -2,8 +2,9 @@
 use mathlib.Core.Path.{_∙_}
 use native.Mathlib.Omega.{arith}
 use Rattle.sampling.specs.Streams.{randOf}
-use Rattle.sampling.specs.SpongeLaws.{three-squeezed, bytes-below}
+use Rattle.sampling.specs.SpongeLaws.{three-squeezed}
 use borrow.Author.Needs.{needs}
+use Rattle.whole.specs.Below.{below-bytes}
 use Rattle.sampling.proofs.digests.rand_of.Statement.{statement}
 use Rattle.sampling.proofs.digests.rand_of.Tie as tie
 
@@ -34,9 +35,9 @@ returns c =
     c .before .before .squeeze .ensures .1
     ∙ rw (start .pre .long, absorbs .absorb3 .ensures, absorbs .before .absorb2 .ensures, absorbs .before .before .absorb .ensures, absorbs .before .before .before .fresh-state .ensures)
     (three-squeezed (start .args .set .digit) 3 _ _ _ 32 (start .pre .good .digit-fits) (omega arith)
-    (bytes-below _ (λ i. known .before .before .shared-slice-known .given i .fits))
-    (bytes-below _ (λ i. known .before .shared-slice-known2 .given i .fits))
-    (bytes-below _ (λ i. known .shared-slice-known3 .given i .fits)))
+    (below-bytes _ (λ i. known .before .before .shared-slice-known .given i .fits))
+    (below-bytes _ (λ i. known .before .shared-slice-known2 .given i .fits))
+    (below-bytes _ (λ i. known .shared-slice-known3 .given i .fits)))
 
 pub rand-of-spec : {M : Type 1} → statement M
 rand-of-spec =

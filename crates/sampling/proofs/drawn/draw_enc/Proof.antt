@@ -5,9 +5,10 @@ use native.Mathlib.Omega.{arith}
 use Rattle.shake.specs.declared.Sponge.{Sponge}
 use Rattle.shake.specs.Sponge.{absorbed}
 use Rattle.sampling.specs.Streams.{encOf}
-use Rattle.sampling.specs.SpongeLaws.{stream-squeezed, bytes-below}
+use Rattle.sampling.specs.SpongeLaws.{stream-squeezed}
 use Rattle.sets.specs.GoodLaws.{n-few}
 use borrow.Author.Needs.{needs}
+use Rattle.whole.specs.Below.{below-bytes}
 use Rattle.sampling.proofs.drawn.draw_enc.Statement.{statement}
 use Rattle.sampling.proofs.drawn.draw_enc.Tie as tie
 
@@ -38,7 +39,7 @@ returns c =
     let s = start .args .set in
     let known = c .before .before .before .before .before .before .before .before .before .before .shared-slice-known .given in
     let state = c .before .before .before .before .before .before .before .absorb .ensures ∙ ap (λ (t : Sponge). absorbed t (start .args .c .now)) (c .before .before .before .before .before .before .before .before .fresh-state .ensures) in
-    rw (start .pre .long, state, stream-squeezed (s .digit) 7 (start .args .c .now) (3 * 256) (start .pre .good .digit-fits) (omega arith) (bytes-below _ (λ i. known i .fits)))
+    rw (start .pre .long, state, stream-squeezed (s .digit) 7 (start .args .c .now) (3 * 256) (start .pre .good .digit-fits) (omega arith) (below-bytes _ (λ i. known i .fits)))
     at (c .before .before .before .draw-positions .ensures)
 
 pub draw-enc-spec : {M : Type 1} → statement M

@@ -1,8 +1,8 @@
 -- `start_a` meets its contract: the fresh state of stream 1 absorbs seed_a. Assumes nothing.
 use mathlib.Core.Path.{_∙_}
-use Rattle.sampling.specs.SpongeLaws.{bytes-below}
 use Rattle.sampling.specs.DrawALaws.{few-values, few-candidates, started-a}
 use borrow.Author.Needs.{needs}
+use Rattle.whole.specs.Below.{below-bytes}
 use Rattle.sampling.proofs.drawn.start_a.Statement.{statement}
 use Rattle.sampling.proofs.drawn.start_a.Tie as tie
 
@@ -22,7 +22,7 @@ mul-t6 c =
 returns : tie.Need-returns
 returns c =
     let start = c .before .before .before .before in
-    started-a (start .args .set) (start .pre) (start .args .seed-a .now) _ (bytes-below _ (λ i. c .before .before .before .shared-slice-known .given i .fits))
+    started-a (start .args .set) (start .pre) (start .args .seed-a .now) _ (below-bytes _ (λ i. c .before .before .before .shared-slice-known .given i .fits))
     (c .absorb .ensures ∙ rw (c .before .fresh-state .ensures))
 
 pub start-a-spec : {M : Type 1} → statement M

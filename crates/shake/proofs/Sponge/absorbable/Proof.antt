@@ -3,7 +3,8 @@
 use mathlib.Core.Path.{sym, _∙_}
 use borrow.Author.Needs.{needs}
 use native.Mathlib.Omega.{arith}
-use Rattle.shake.proofs.Steps.{absorbable-squeezing, absorbable-absorbing, absorbable-out}
+use Rattle.shake.specs.Pieces.{absorbable-is}
+use Rattle.shake.proofs.Steps.{absorbable-squeezing, absorbable-out}
 use Rattle.shake.proofs.Sponge.absorbable.Statement.{statement}
 use Rattle.shake.proofs.Sponge.absorbable.Tie as tie
 
@@ -17,7 +18,7 @@ returns : tie.Need-returns
 returns c = c .blank .ensures ∙ sym (absorbable-squeezing _ (search needs))
 
 returns-2 : tie.Need-returns-2
-returns-2 c = sym (absorbable-absorbing _ (search needs) (omega arith))
+returns-2 c = sym (absorbable-is _ (record { phase = search needs; within = omega arith }))
 
 returns-3 : tie.Need-returns-3
 returns-3 c = c .blank2 .ensures ∙ sym (absorbable-out _ (omega arith))
