@@ -1,9 +1,9 @@
 -- For every good set: an attempt that passes with the key that was made gives a z and a c' that checking accepts.
 -- Assumes nothing.
-use mathlib.Core.Path.{_≡_, refl, sym, ap, ap₂, subst, _∙_}
-use mathlib.Core.Bool.{Bool, true, false, cond}
+use mathlib.Core.Path.{_≡_, sym, ap, ap₂, _∙_}
+use mathlib.Core.Bool.{Bool, true}
 use mathlib.Core.List.{List, map}
-use Prim.Native.Nat.{ℕ, _+_, _*_, _≤_, _<_}
+use Prim.Native.Nat.{ℕ, _*_, _≤_, _<_}
 use native.Mathlib.Omega.{arith}
 use lib.ListN.{length, getD, length-map, List·getD-map}
 use lib.Seq.{ext-getD}
@@ -24,7 +24,7 @@ use Rattle.sets.specs.declared.Numbers.{Numbers}
 use Rattle.sets.specs.Good.{Good}
 use Rattle.sets.specs.Limits.{messageLimit}
 use Rattle.sets.specs.GoodLaws.{q-some}
-use Rattle.sampling.specs.Positions.{Drawn, polynomialOf}
+use Rattle.sampling.specs.Positions.{polynomialOf}
 use Rattle.sampling.specs.StreamsLaws.{shake-length, encOf-small, encOf-total}
 use Rattle.sampling.specs.Streams.{aOf, yOf, encOf, challenge, messageDigest, keyDigest}
 use Rattle.records.specs.Layout.{marked, seedBytes, publicBytes}
@@ -35,65 +35,16 @@ use Rattle.records.specs.PublicLaws.{polynomial-length, below-tInRange, publicR
 use Rattle.records.specs.SignatureLaws.{signatureRecord-length, signature-marked, signature-challenge, signature-z}
 use Rattle.keys.specs.Key.{keyT, allKeyT, publicOf, eachEPasses}
 use Rattle.keys.specs.KeyLaws.{keyT-length, allKeyT-length, allKeyT-below}
-use Rattle.signing.specs.Attempt.{Key, passes, fails, overflows, highsOf, vOf, zFrom, wOf, wPasses, attemptPasses, answered, tried, attempt}
-use Rattle.signing.specs.AttemptLaws.{vOf-length, wOf-length, zFrom-length}
+use Rattle.signing.specs.Attempt.{Key, passes, highsOf, vOf, zFrom, wOf, wPasses, attempt}
+use Rattle.signing.specs.AttemptLaws.{vOf-length, wOf-length, zFrom-length, Passing, passing, attempt-z, attempt-w}
 use Rattle.checking.specs.Check.{checkW, checkHighs, publicG, checkTests}
 use Rattle.demands.specs.Alike.{same-w, alike}
-
--- ---- what a passing attempt says
-
--- an attempt that passes: its high parts fit, c' is their hash, its tests pass, and z is y + s c
-pub record Passing (set : Numbers) (key : Key) (digest rand : List ℕ) (counter : ℕ) (z : List ℤ) (c′ : List ℕ) : Type 0 where
-  pub fits : every fitsByte (highsOf set (vOf set (key .seedA) (yOf set rand counter))) ≡ true
-  pub hash : challenge set (highsOf set (vOf set (key .seedA) (yOf set rand counter))) digest (key .g) ≡ c′
-  pub tests : attemptPasses set key (yOf set rand counter) (vOf set (key .seedA) (yOf set rand counter)) (encOf set c′) ≡ true
-  pub is : zFrom set (key .s) (yOf set rand counter) (encOf set c′) ≡ z
-
-inner : (set : Numbers) (key : Key) (digest rand : List ℕ) (counter : ℕ) (z : List ℤ) (c′ d : List ℕ) (b : Bool)
-    → every fitsByte (highsOf set (vOf set (key .seedA) (yOf set rand counter))) ≡ true
-    → challenge set (highsOf set (vOf set (key .seedA) (yOf set rand counter))) digest (key .g) ≡ d
-    → attemptPasses set key (yOf set rand counter) (vOf set (key .seedA) (yOf set rand counter)) (encOf set d) ≡ b
-    → cond b (passes (zFrom set (key .s) (yOf set rand counter) (encOf set d)) d) fails ≡ passes z c′
-    → Passing set key digest rand counter z c′
-inner set key digest rand counter z c′ d true f h t e =
-    let same : d ≡ c′ = cc in
-    let is : zFrom set (key .s) (yOf set rand counter) (encOf set d) ≡ z = cc in
-    record {
-      fits = f;
-      hash = h ∙ same;
-      tests = subst (λ (x : List ℕ). attemptPasses set key (yOf set rand counter) (vOf set (key .seedA) (yOf set rand counter)) (encOf set x) ≡ true) same t;
-      is = subst (λ (x : List ℕ). zFrom set (key .s) (yOf set rand counter) (encOf set x) ≡ z) same is;
-    }
-inner set key digest rand counter z c′ d false f h t e = absurd (let x : _≡_ {A = ℕ} 0 1 = cc in omega arith)
-
-outer : (set : Numbers) (key : Key) (digest rand : List ℕ) (counter : ℕ) (z : List ℤ) (c′ : List ℕ) (b : Bool)
-    → every fitsByte (highsOf set (vOf set (key .seedA) (yOf set rand counter))) ≡ b
-    → cond b (answered set key (yOf set rand counter) (vOf set (key .seedA) (yOf set rand counter)) (challenge set (highsOf set (vOf set (key .seedA) (yOf set rand counter))) digest (key .g))) overflows ≡ passes z c′
-    → Passing set key digest rand counter z c′
-unfolding answered
-outer set key digest rand counter z c′ true f e =
-    inner set key digest rand counter z c′ _ _ f refl refl e
-outer set key digest rand counter z c′ false f e = absurd (let x : _≡_ {A = ℕ} 0 1 = cc in omega arith)
-
-pub passing : (set : Numbers) (key : Key) (digest rand : List ℕ) (counter : ℕ) (z : List ℤ) (c′ : List ℕ)
-    → attempt set key digest rand counter ≡ passes z c′ → Passing set key digest rand counter z c′
-unfolding attempt tried
-passing set key digest rand counter z c′ e = outer set key digest rand counter z c′ _ refl e
 
 -- ---- lengths
 
 pub challenge-length : (set : Numbers) (highs : List ℤ) (digest g : List ℕ) → length (challenge set highs digest g) ≡ seedBytes
 unfolding challenge
 challenge-length set highs digest g = shake-length _ 32
-
--- the two halves of an attempt's tests
-attempt-z : (set : Numbers) (key : Key) (y : List ℤ) (v : ℕ → List ℕ) (c : List Drawn) → attemptPasses set key y v c ≡ true → zInRange set (zFrom set (key .s) y c) ≡ true
-unfolding attemptPasses
-attempt-z set key y v c e = both-first (zInRange set (zFrom set (key .s) y c)) (eachBelow (set .k) (λ i. wPasses set (wOf set (key .e) v c i))) e
-
-attempt-w : (set : Numbers) (key : Key) (y : List ℤ) (v : ℕ → List ℕ) (c : List Drawn) → attemptPasses set key y v c ≡ true → eachBelow (set .k) (λ i. wPasses set (wOf set (key .e) v c i)) ≡ true
-unfolding attemptPasses
-attempt-w set key y v c e = both-second (zInRange set (zFrom set (key .s) y c)) (eachBelow (set .k) (λ i. wPasses set (wOf set (key .e) v c i))) e
 
 pub made-marked : (set : Numbers) (s e seedA : List ℕ) → marked set 1 (publicOf set s e seedA) ≡ true
 unfolding publicOf

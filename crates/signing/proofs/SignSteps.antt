@@ -1,6 +1,6 @@
 -- Signing after its tests, and the answer of the tests. Assumes nothing.
 use mathlib.Core.Path.{_≡_, refl, sym, ap, subst, _∙_}
-use mathlib.Core.Bool.{Bool, true, false, cond, _&&_, true≢false}
+use mathlib.Core.Bool.{Bool, true, false, _&&_, true≢false}
 use mathlib.Core.List.{List}
 use Prim.Native.Nat.{ℕ, zero, suc, _+_, _*_, _-_, _≤_}
 use native.Mathlib.Omega.{arith}
@@ -8,19 +8,19 @@ use lib.Dec.{eqb, leb, lit<, lit≤}
 use lib.IntN.{ℤ}
 use lib.ListN.{length, take, drop}
 use borrow.Author.Tests.{eqb-true, leb-true}
-use Rattle.whole.specs.Refusal.{answer, every, eachBelow}
+use Rattle.whole.specs.Refusal.{answer}
 use Rattle.whole.specs.RefusalLaws.{answer-first, answer-rest, both-first, both-second}
-use Rattle.rounding.specs.Tests.{fitsByte}
 use Rattle.sets.specs.declared.Numbers.{Numbers}
 use Rattle.sets.specs.SetI.{setI, setI-good}
 use Rattle.sets.specs.Limits.{budgetLimit}
 use Rattle.sets.specs.GoodLaws.{n-few, row-few}
-use Rattle.sampling.specs.Streams.{yOf, encOf, challenge, messageDigest, randOf}
+use Rattle.sampling.specs.Streams.{yOf, encOf, messageDigest, randOf}
 use Rattle.records.specs.Layout.{seedBytes, secretBytes, signatureBytes}
 use Rattle.records.specs.Secret.{secretSeedA, secretSeedY, secretG}
 use Rattle.records.specs.Signature.{signatureRecord, zInRange}
 use Rattle.signing.specs.declared.search.Searched.{Searched}
-use Rattle.signing.specs.Attempt.{Key, passes, fails, overflows, highsOf, vOf, zFrom, wOf, wPasses, attemptPasses, answered, tried, attempt}
+use Rattle.signing.specs.Attempt.{Key, passes, vOf, attempt}
+use Rattle.signing.specs.AttemptLaws.{passing, attempt-z}
 use Rattle.signing.specs.Search.{Found, found, none, overflow, search}
 use Rattle.signing.specs.SearchLaws.{found-smallest}
 use Rattle.signing.specs.Sign.{keyOf, signTests, signSearch, foundNumber, foundCounter, foundSignature, signNumber, signCounter, signSignature}
@@ -31,27 +31,11 @@ use Rattle.signing.specs.declared.search.Searched.the-variants as search
 
 -- ---- z of an attempt that passes is in its range
 
-answered-inside : (set : Numbers) (key : Key) (y : List ℤ) (v : ℕ → List ℕ) (d : List ℕ) (z : List ℤ) (c′ : List ℕ) (b : Bool)
-    → attemptPasses set key y v (encOf set d) ≡ b → cond b (passes (zFrom set (key .s) y (encOf set d)) d) fails ≡ passes z c′ → zInRange set z ≡ true
-unfolding attemptPasses
-answered-inside set key y v d z c′ true t e =
-    let is : zFrom set (key .s) y (encOf set d) ≡ z = cc in
-    subst (λ (x : List ℤ). zInRange set x ≡ true) is
-    (both-first (zInRange set (zFrom set (key .s) y (encOf set d))) (eachBelow (set .k) (λ i. wPasses set (wOf set (key .e) v (encOf set d) i))) t)
-answered-inside set key y v d z c′ false t e = absurd (let x : _≡_ {A = ℕ} 0 1 = cc in omega arith)
-
-tried-inside : (set : Numbers) (key : Key) (digest : List ℕ) (y : List ℤ) (v : ℕ → List ℕ) (z : List ℤ) (c′ : List ℕ) (b : Bool)
-    → cond b (answered set key y v (challenge set (highsOf set v) digest (key .g))) overflows ≡ passes z c′ → zInRange set z ≡ true
-unfolding answered
-tried-inside set key digest y v z c′ true e =
-    answered-inside set key y v (challenge set (highsOf set v) digest (key .g)) z c′ _ refl e
-tried-inside set key digest y v z c′ false e = absurd (let x : _≡_ {A = ℕ} 0 1 = cc in omega arith)
-
 attempt-inside : (set : Numbers) (key : Key) (digest rand : List ℕ) (counter : ℕ) (z : List ℤ) (c′ : List ℕ)
     → attempt set key digest rand counter ≡ passes z c′ → zInRange set z ≡ true
-unfolding attempt tried
 attempt-inside set key digest rand counter z c′ e =
-    tried-inside set key digest (yOf set rand counter) (vOf set (key .seedA) (yOf set rand counter)) z c′ (every fitsByte (highsOf set (vOf set (key .seedA) (yOf set rand counter)))) e
+    let p = passing set key digest rand counter z c′ e in
+    ap (zInRange set) (sym (p .is)) ∙ attempt-z set key (yOf set rand counter) (vOf set (key .seedA) (yOf set rand counter)) (encOf set c′) (p .tests)
 
 pub found-inside : (set : Numbers) (key : Key) (digest rand : List ℕ) (budget counter : ℕ) (z : List ℤ) (c′ : List ℕ)
     → found counter z c′ ≡ search (attempt set key digest rand) budget → zInRange set z ≡ true

@@ -3,7 +3,6 @@ use sets::Numbers;
 ghost use mathlib.Core.Path.{_≡_};
 ghost use mathlib.Core.Bool.{_&&_};
 ghost use lib.Dec.{eqb, leb};
-ghost use lib.ListN.{length};
 ghost use Rattle.whole.specs.Refusal.{answer};
 ghost use Rattle.sets.specs.Good.{Good};
 ghost use Rattle.sets.specs.Limits.{budgetLimit};
