@@ -6,10 +6,10 @@ use Prim.Native.Nat.{ℕ, _+_, _*_, _-_, _≤_, _<_}
 use native.Mathlib.Omega.{arith}
 use lib.Dec.{eqb, leb}
 use lib.ListN.{length, take, drop}
-use borrow.Author.Tests.{le-leb, lt-leb, eqb-true, eq-eqb, ne-eqb}
+use borrow.Author.Tests.{le-leb, lt-leb, eqb-true}
 use Rattle.whole.specs.Parts.{part-length}
 use Rattle.whole.specs.Refusal.{answer}
-use Rattle.whole.specs.RefusalLaws.{answer-pass, answer-fail, answer-none, both-first, not-first, not-second}
+use Rattle.whole.specs.RefusalLaws.{answer-pass, answer-fail, answer-none, both-first, not-first}
 use Rattle.ring.specs.Largest.{sumPasses, Few}
 use Rattle.sets.specs.declared.Numbers.{Numbers}
 use Rattle.sets.specs.Good.{Good}
@@ -129,18 +129,7 @@ module _ (set : Numbers) (secret : List ℕ) (message r budget signature : ℕ) 
         places-long = t .places-long;
       }
 
--- ---- the lengths and the budget
-
-module _ (set : Numbers) (secret r signature : ℕ) {a : ℕ} (e : a ≡ secretBytes set) where
-  pub lengths-first : (secret ≡ a → ⊥) → false ≡ (eqb secret (secretBytes set) && (eqb r seedBytes && eqb signature (signatureBytes set)))
-  lengths-first f = sym (not-first {a = eqb secret (secretBytes set)} (eqb r seedBytes && eqb signature (signatureBytes set)) (rw (← e) (ne-eqb secret a f)))
-
-  pub lengths-second : (r ≡ 32 → ⊥) → false ≡ (eqb secret (secretBytes set) && (eqb r seedBytes && eqb signature (signatureBytes set)))
-  lengths-second f = sym (not-second (eqb secret (secretBytes set)) (not-first (eqb signature (signatureBytes set)) (ne-eqb r 32 f)))
-
-  pub lengths-all : {b : ℕ} → secret ≡ a → r ≡ 32 → b ≡ signatureBytes set
-      → eqb signature b ≡ (eqb secret (secretBytes set) && (eqb r seedBytes && eqb signature (signatureBytes set)))
-  lengths-all f g h = ap (eqb signature) h ∙ sym (rw (eq-eqb secret (secretBytes set) (f ∙ e), eq-eqb r 32 g))
+-- ---- the budget
 
 pub budget-high : (budget : ℕ) → 1 ≤ budget → leb budget 1024 ≡ (leb 1 budget && leb budget budgetLimit)
 budget-high budget l = sym (rw (le-leb 1 budget l))

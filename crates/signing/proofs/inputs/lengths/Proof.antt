@@ -1,6 +1,8 @@
 -- `signing::inputs::lengths` meets its contract. Assumes nothing.
-use Rattle.signing.proofs.InputSteps.{lengths-all, lengths-first, lengths-second}
+use mathlib.Core.Path.{sym, ap, _∙_}
+use lib.Dec.{eqb}
 use borrow.Author.Needs.{needs}
+use Rattle.whole.specs.RefusalLaws.{and-same, and-differs}
 use Rattle.signing.proofs.inputs.lengths.Statement.{statement}
 use Rattle.signing.proofs.inputs.lengths.Tie as tie
 
@@ -12,18 +14,16 @@ signature-bytes-requires c κs = search needs
 
 returns : tie.Need-returns
 returns c =
-    let a = c .before .before .before .before .args in
-    lengths-all (a .set) (a .secret) (a .r) (a .signature) (c .before .before .before .secret-bytes .ensures) (c .before .before .if1 .taken) (c .before .if2 .taken) (c .signature-bytes .ensures)
+    let first = c .before .before in
+    and-same (first .if1 .taken ∙ first .before .secret-bytes .ensures) (and-same (c .before .if2 .taken) (ap (eqb _) (c .signature-bytes .ensures)))
 
 returns-2 : tie.Need-returns-2
 returns-2 c =
-    let a = c .before .before .before .args in
-    lengths-second (a .set) (a .secret) (a .r) (a .signature) (c .before .before .secret-bytes .ensures) (c .if2 .left)
+    let first = c .before in
+    and-same (first .if1 .taken ∙ first .before .secret-bytes .ensures) (and-differs _ (c .if2 .left))
 
 returns-3 : tie.Need-returns-3
-returns-3 c =
-    let a = c .before .before .args in
-    lengths-first (a .set) (a .secret) (a .r) (a .signature) (c .before .secret-bytes .ensures) (c .if1 .left)
+returns-3 c = and-differs _ (λ e. c .if1 .left (e ∙ sym (c .before .secret-bytes .ensures)))
 
 pub lengths-spec : {M : Type 1} → statement M
 lengths-spec =
