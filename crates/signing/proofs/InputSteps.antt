@@ -6,10 +6,10 @@ use Prim.Native.Nat.{ℕ, _+_, _*_, _-_, _≤_, _<_}
 use native.Mathlib.Omega.{arith}
 use lib.Dec.{eqb, leb}
 use lib.ListN.{length, take, drop}
-use borrow.Author.Tests.{le-leb, lt-leb, eqb-true}
+use borrow.Author.Tests.{le-leb, lt-leb}
 use Rattle.whole.specs.Parts.{part-length}
 use Rattle.whole.specs.Refusal.{answer}
-use Rattle.whole.specs.RefusalLaws.{answer-pass, answer-fail, answer-none, both-first, not-first}
+use Rattle.whole.specs.RefusalLaws.{answer-pass, answer-fail, answer-none, same-first, not-first}
 use Rattle.ring.specs.Largest.{sumPasses, Few}
 use Rattle.sets.specs.declared.Numbers.{Numbers}
 use Rattle.sets.specs.Good.{Good}
@@ -125,7 +125,7 @@ module _ (set : Numbers) (secret : List ℕ) (message r budget signature : ℕ) 
   inputs-values f t =
       record {
         good = t .good;
-        long = eqb-true (length secret) (secretBytes set) (both-first (eqb (length secret) (secretBytes set)) (eqb r seedBytes && eqb signature (signatureBytes set)) (sym e ∙ f));
+        long = same-first (length secret) (secretBytes set) _ (sym e ∙ f);
         places-long = t .places-long;
       }
 

@@ -9,7 +9,7 @@ use lib.IntN.{ℤ}
 use lib.ListN.{length, take, drop}
 use borrow.Author.Tests.{eqb-true, leb-true}
 use Rattle.whole.specs.Refusal.{answer}
-use Rattle.whole.specs.RefusalLaws.{answer-first, answer-rest, both-first, both-second}
+use Rattle.whole.specs.RefusalLaws.{answer-first, answer-rest, both-second, same-first, same-rest}
 use Rattle.sets.specs.declared.Numbers.{Numbers}
 use Rattle.sets.specs.SetI.{setI, setI-good}
 use Rattle.sets.specs.Limits.{budgetLimit}
@@ -141,12 +141,10 @@ module _ (set : Numbers) (secret : List ℕ) (message r budget signature : ℕ) 
   lengths = answer-first _ 0 _ e
 
   pub tested-secret : length secret ≡ secretBytes set
-  tested-secret = eqb-true (length secret) (secretBytes set) (both-first (eqb (length secret) (secretBytes set)) (eqb r seedBytes && eqb signature (signatureBytes set)) lengths)
+  tested-secret = same-first (length secret) (secretBytes set) _ lengths
 
   pub tested-signature : signature ≡ signatureBytes set
-  tested-signature =
-      eqb-true signature (signatureBytes set)
-      (both-second (eqb r seedBytes) (eqb signature (signatureBytes set)) (both-second (eqb (length secret) (secretBytes set)) (eqb r seedBytes && eqb signature (signatureBytes set)) lengths))
+  tested-signature = eqb-true signature (signatureBytes set) (same-rest r seedBytes _ (same-rest (length secret) (secretBytes set) _ lengths))
 
   pub tested-budget : budget ≤ budgetLimit
   unfolding signTests
