@@ -1,7 +1,7 @@
 -- The high parts of v_1..v_k are absorbed one polynomial after another. Assumes nothing.
 use mathlib.Core.Path.{_≡_, refl, sym, ap, ap₂, _∙_}
 use mathlib.Core.Bool.{Bool, true, _&&_}
-use mathlib.Core.List.{List, [], _∷_, map, map-append}
+use mathlib.Core.List.{List, [], map, map-map, map-append}
 use Prim.Native.Nat.{ℕ, _+_, _*_, _-_, _≤_, _<_, zero-le}
 use native.Mathlib.Nat.{le-antisymm}
 use native.Mathlib.Numerals.{add-one}
@@ -83,12 +83,8 @@ module _ {set : Numbers} {v bytes : List ℕ} {state : Sponge} {fit : Bool} {i :
         fit-is = ap₂ _&&_ (h .fit-is) fits-are ∙ sym (every-append fitsByte (joined i (highsAt set v)) (highsAt set v i));
       })
     where
-      map-map : (xs : List ℕ) → map (λ x. twos 8 (high (set .q) (set .d) (pos x))) xs ≡ map (twos 8) (map (λ x. high (set .q) (set .d) (pos x)) xs)
-      map-map [] = refl
-      map-map (x ∷ xs) = ap (λ (r : List ℕ). twos 8 (high (set .q) (set .d) (pos x)) ∷ r) (map-map xs)
-
       bytes-are : new ≡ map (twos 8) (highsAt set v i)
-      bytes-are = eb ∙ ap (map (λ x. twos 8 (high (set .q) (set .d) (pos x)))) (row-lent (set .n) i v) ∙ map-map (polynomial (set .n) i v)
+      bytes-are = eb ∙ ap (map (λ x. twos 8 (high (set .q) (set .d) (pos x)))) (row-lent (set .n) i v) ∙ sym (map-map (twos 8) (λ x. high (set .q) (set .d) (pos x)) (polynomial (set .n) i v))
 
       fits-are : fits ≡ every fitsByte (highsAt set v i)
       fits-are =
