@@ -20,7 +20,7 @@ use Rattle.sets.specs.declared.Numbers.{Numbers}
 use Rattle.sets.specs.Marks.{fresh}
 use Rattle.sampling.specs.Positions.{Drawn, polynomialOf}
 use Rattle.sampling.specs.Streams.{yOf, encOf, challenge}
-use Rattle.sampling.specs.StreamsLaws.{encOf-length, encOf-signed, yOf-length, yOf-size}
+use Rattle.sampling.specs.StreamsLaws.{encOf-length, encOf-signed, yOf-length}
 use Rattle.sampling.specs.SpongeLaws.{challenge-squeezed}
 use Rattle.sampling.specs.DrawnAsks.{DrawEnc, AreDrawn}
 use Rattle.records.specs.Layout.{polynomial}
@@ -29,7 +29,7 @@ use Rattle.signing.specs.Attempt.{passes, fails, overflows, highsOf, vOf
 use Rattle.signing.specs.Parts.{zWith, wOne, wWith}
 use Rattle.signing.specs.Answers.{keyWith}
 use Rattle.signing.specs.Asks.{Terms, MakesZ, TestsW, Commits, Responds, Places, Secrets}
-use Rattle.signing.proofs.ProductSteps.{v-all-below, v-all-length, v-parts}
+use Rattle.signing.proofs.ProductSteps.{yOf-within, v-all-below, v-all-length, v-parts}
 
 -- ---- once c' is known
 
@@ -124,7 +124,7 @@ module _ {set : Numbers} {s e : List ℕ} (sec : Secrets set s e) {y₀ : List �
             s-long = sec .s-long;
             e-long = sec .e-long;
             y-long = ap length y-is ∙ yOf-length set (sec .fitting .good) rand counter;
-            y-within = rw y-is (record { at = λ i l. yOf-size set (sec .fitting .good) rand counter i });
+            y-within = rw y-is (yOf-within set (sec .fitting .good) rand counter);
             v-long = ap length w-is ∙ v-all-length set seedA (yOf set rand counter);
             v-below = rw w-is (v-all-below set (sec .fitting .good) seedA (yOf set rand counter));
             ps-long = places .ps-long;

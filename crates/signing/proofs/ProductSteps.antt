@@ -9,7 +9,7 @@ use lib.IntN.{ℤ, pos}
 use lib.ListN.{length, take, drop}
 use Rattle.whole.specs.Residue.{residue, residue-eq, Same, same-refl}
 use Rattle.whole.specs.Table.{joined, joined-ext, joined-length, joined-part, table-ext}
-use Rattle.whole.specs.Below.{Below, below-joined}
+use Rattle.whole.specs.Below.{Below, below-joined, Within, within-more}
 use Rattle.whole.specs.Parts.{part-length}
 use Rattle.whole.specs.Rows.{row-fits, row-lent}
 use Rattle.whole.specs.Written.{Written, written-none, written-length, written-more, written-all, put-part}
@@ -117,6 +117,10 @@ module _ {set : Numbers} {seedA yr old first : List ℕ} (m : Multiplies set yr 
 
 -- ---- y, its residues, v_1..v_k and their high parts
 
+-- every coefficient of y is from −b to b
+pub yOf-within : (set : Numbers) → Good set → (rand : List ℕ) (counter : ℕ) → Within (set .b) (yOf set rand counter)
+yOf-within set good rand counter = record { at = λ i l. yOf-size set good rand counter i }
+
 pub v-all-below : (set : Numbers) → Good set → (seedA : List ℕ) (y : List ℤ) → Below (set .q) (joined (set .k) (vOf set seedA y))
 unfolding vOf
 v-all-below set good seedA y =
@@ -161,7 +165,7 @@ module _ {set : Numbers} {first : List ℤ} {yr a v bytes : List ℕ} (m : Commi
       record {
         small = m .good .q-small;
         some = q-some (m .good);
-        within = rw e (record { at = λ i l. omega (arith, yOf-size set (m .good) rand counter i, m .good .b-small) });
+        within = rw e (within-more (yOf set rand counter) (m .good .b-small) (yOf-within set (m .good) rand counter));
         long = y-long ∙ sym (m .yr-long);
       }
 
