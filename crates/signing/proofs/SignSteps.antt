@@ -13,9 +13,8 @@ use Rattle.whole.specs.RefusalLaws.{answer-first, answer-rest, both-second, sam
 use Rattle.sets.specs.declared.Numbers.{Numbers}
 use Rattle.sets.specs.SetI.{setI, setI-good}
 use Rattle.sets.specs.Limits.{budgetLimit}
-use Rattle.sets.specs.GoodLaws.{n-few, row-few}
 use Rattle.sampling.specs.Streams.{yOf, encOf, messageDigest, randOf}
-use Rattle.records.specs.Layout.{seedBytes, secretBytes, signatureBytes}
+use Rattle.records.specs.Layout.{seedBytes, digestBytes, secretBytes, signatureBytes}
 use Rattle.records.specs.Secret.{secretSeedA, secretSeedY, secretG}
 use Rattle.records.specs.Signature.{signatureRecord, zInRange}
 use Rattle.signing.specs.declared.search.Searched.{Searched}
@@ -25,7 +24,7 @@ use Rattle.signing.specs.Search.{Found, found, none, overflow, search}
 use Rattle.signing.specs.SearchLaws.{found-smallest}
 use Rattle.signing.specs.Sign.{keyOf, signTests, signSearch, foundNumber, foundCounter, foundSignature, signNumber, signCounter, signSignature}
 use Rattle.signing.specs.Answers.{foundOf, keyWith}
-use Rattle.signing.specs.Asks.{Fitting, Places, Secrets, SearchesKey, Hashes, Signs}
+use Rattle.signing.specs.Asks.{Fitting, Places, Secrets, SearchesKey, Signs}
 use Rattle.signing.proofs.InputSteps.{s-lent, e-lent, s-long, e-long}
 use Rattle.signing.specs.declared.search.Searched.the-variants as searched
 
@@ -48,41 +47,25 @@ module _ {set : Numbers} {secret : List ℕ} {budget : ℕ} (k : SearchesKey set
   pub key-secrets : Secrets set (take (at - 2) (drop 2 secret)) (take (seeds - at) (drop at secret))
   key-secrets = record { fitting = k .fitting; s-long = s-long set secret (k .long) a b; e-long = e-long set secret (k .long) a b }
 
-  pub key-fits : seeds + 104 ≤ length secret
-  key-fits = omega (arith, k .long)
-
-  -- every place in the record fits a word
-  pub key-few : seeds + 104 ≤ 17000000
-  key-few = omega (arith, row-few (k .fitting .good), n-few (k .fitting .good))
-
-  pub key-is : keyWith (take (at - 2) (drop 2 secret)) (take (seeds - at) (drop at secret)) (take (seeds + 32 - seeds) (drop seeds secret)) (take (seeds + 104 - (seeds + 64)) (drop (seeds + 64) secret)) ≡ keyOf set secret
+  pub key-is : {y g end : ℕ} → y ≡ 2 + set .n + set .k * set .n + seedBytes → g ≡ 2 + set .n + set .k * set .n + seedBytes + seedBytes → end ≡ secretBytes set
+      → keyWith (take (at - 2) (drop 2 secret)) (take (seeds - at) (drop at secret)) (take (y - seeds) (drop seeds secret)) (take (end - g) (drop g secret)) ≡ keyOf set secret
   unfolding keyOf secretSeedA secretG
-  key-is = rw (s-lent set secret (k .long) a b, e-lent set secret (k .long) a b, seed-size, g-size, g-at) (rw b refl)
+  key-is {y} {g} {end} d f l = rw (s-lent set secret (k .long) a b, e-lent set secret (k .long) a b, seed-size, g-size) (rw (b, f) refl)
     where
-      seed-size : seeds + 32 - seeds ≡ 32
+      seed-size : y - seeds ≡ seedBytes
       seed-size = omega arith
 
-      g-size : seeds + 104 - (seeds + 64) ≡ 40
+      g-size : end - g ≡ digestBytes
       g-size = omega arith
 
-      g-at : seeds + 64 ≡ seeds + 32 + 32
-      g-at = omega arith
-
-module _ {set : Numbers} {secret digest rand : List ℕ} (h : Hashes set secret digest rand) {seeds : ℕ} (b : seeds ≡ 2 + set .n + set .k * set .n) where
-  pub hash-fits : seeds + 32 + 32 ≤ length secret
-  hash-fits = omega (arith, h .long)
-
-  pub hash-few : seeds + 104 ≤ 17000000
-  hash-few = omega (arith, row-few (h .good), n-few (h .good))
-
-  pub hash-rand : {new made : List ℕ} (r message : List ℕ) → made ≡ messageDigest set message
-      → new ≡ randOf set (take (seeds + 32 + 32 - (seeds + 32)) (drop (seeds + 32) secret)) r made
-      → new ≡ randOf set (secretSeedY set secret) r (messageDigest set message)
-  unfolding secretSeedY
-  hash-rand r message e f = f ∙ rw (e, size, b)
-    where
-      size : seeds + 32 + 32 - (seeds + 32) ≡ 32
-      size = omega arith
+pub hash-rand : (set : Numbers) (secret r message : List ℕ) {y g : ℕ} → y ≡ 2 + set .n + set .k * set .n + seedBytes → g ≡ 2 + set .n + set .k * set .n + seedBytes + seedBytes
+    → {new made : List ℕ} → made ≡ messageDigest set message → new ≡ randOf set (take (g - y) (drop y secret)) r made
+    → new ≡ randOf set (secretSeedY set secret) r (messageDigest set message)
+unfolding secretSeedY
+hash-rand set secret r message {y} {g} d f e h = h ∙ rw (e, size, d)
+  where
+    size : g - y ≡ seedBytes
+    size = omega arith
 
 -- ---- what was found
 

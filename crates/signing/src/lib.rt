@@ -140,9 +140,9 @@ fn search_key(
 {
     let e_at = records::secret::e_start(set);
     let seed_at = records::secret::seed_a_start(set);
-    let seed_end = seed_at + 32;
-    let g_at = seed_at + 64;
-    let g_end = seed_at + 104;
+    let seed_end = records::secret::seed_y_start(set);
+    let g_at = records::secret::g_start(set);
+    let g_end = records::secret::secret_bytes(set);
     search::search(
         set,
         &secret[2..e_at],
@@ -177,8 +177,8 @@ fn hash_message(
     ensures digest { λ _. ⌜ now (digest .exit) ≡ messageDigest set (now (message .entry)) ⌝ }
     ensures rand { λ _. ⌜ now (rand .exit) ≡ randOf set (secretSeedY set (now (secret .entry))) (now (r .entry)) (messageDigest set (now (message .entry))) ⌝ }
 {
-    let at = records::secret::seed_a_start(set) + 32;
-    let end = at + 32;
+    let at = records::secret::seed_y_start(set);
+    let end = records::secret::g_start(set);
     sampling::digests::message_digest(set, message, digest);
     sampling::digests::rand_of(set, &secret[at..end], r, digest, rand);
 }

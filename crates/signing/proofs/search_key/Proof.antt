@@ -4,7 +4,7 @@ use native.Mathlib.Omega.{arith}
 use Rattle.signing.specs.Attempt.{Key, attempt}
 use Rattle.signing.specs.Search.{search}
 use Rattle.signing.proofs.InputSteps.{s-end, e-ends}
-use Rattle.signing.proofs.SignSteps.{key-secrets, key-fits, key-few, key-is}
+use Rattle.signing.proofs.SignSteps.{key-secrets, key-is}
 use Rattle.signing.proofs.search_key.Statement.{statement}
 use Rattle.signing.proofs.search_key.Tie as tie
 
@@ -18,68 +18,87 @@ seed-a-start-requires c κs =
     let start = c .before .before .before .before .before .before .before .before .before .before in
     start .pre .0 .fitting .good
 
-add-seed-end : tie.Need-add-seed-end
-add-seed-end c =
+seed-y-start-requires : tie.Need-seed-y-start-requires
+seed-y-start-requires c κs =
     let start = c .before .before .before .before .before .before .before .before .before .before .before in
-    omega (arith, key-few (start .pre .0) (c .before .e-start .ensures) (c .seed-a-start .ensures))
+    start .pre .0 .fitting .good
 
-add-g-at : tie.Need-add-g-at
-add-g-at c =
-    let start = c .before .before .before .before .before .before .before .before .before .before .before in
-    omega (arith, key-few (start .pre .0) (c .before .e-start .ensures) (c .seed-a-start .ensures))
+g-start-requires : tie.Need-g-start-requires
+g-start-requires c κs =
+    let start = c .before .before .before .before .before .before .before .before .before .before .before .before in
+    start .pre .0 .fitting .good
 
-add-g-end : tie.Need-add-g-end
-add-g-end c =
-    let start = c .before .before .before .before .before .before .before .before .before .before .before in
-    omega (arith, key-few (start .pre .0) (c .before .e-start .ensures) (c .seed-a-start .ensures))
+secret-bytes-requires : tie.Need-secret-bytes-requires
+secret-bytes-requires c κs =
+    let start = c .before .before .before .before .before .before .before .before .before .before .before .before .before in
+    start .pre .0 .fitting .good
 
 sub-search : tie.Need-sub-search
-sub-search c = omega (arith, (c .before .e-start .ensures))
+sub-search c = omega (arith, c .before .before .before .before .e-start .ensures)
 
 part-search-start : tie.Need-part-search-start
-part-search-start c = omega (arith, (c .before .e-start .ensures))
+part-search-start c = omega (arith, c .before .before .before .before .e-start .ensures)
 
 part-search-end : tie.Need-part-search-end
 part-search-end c =
-    let start = c .before .before .before .before .before .before .before .before .before .before .before in
-    omega (arith, s-end (start .args .set) (start .args .secret .now) (start .pre .0 .long) (c .before .e-start .ensures) (c .seed-a-start .ensures))
+    let at-seed-a-start = c .before .before .before in
+    let at-e-start = at-seed-a-start .before in
+    let start = at-e-start .before .before .before .before .before .before .before .before .before .before in
+    s-end (start .args .set) (start .args .secret .now) (start .pre .0 .long) (at-e-start .e-start .ensures) (at-seed-a-start .seed-a-start .ensures)
 
 sub-search-2 : tie.Need-sub-search-2
-sub-search-2 c = omega (arith, (c .before .before .e-start .ensures), (c .before .seed-a-start .ensures))
+sub-search-2 c =
+    let at-seed-a-start = c .before .before .before .before in
+    omega (arith, at-seed-a-start .before .e-start .ensures, at-seed-a-start .seed-a-start .ensures)
 
 part-search-start-2 : tie.Need-part-search-start-2
-part-search-start-2 c = omega (arith, (c .before .before .e-start .ensures), (c .before .seed-a-start .ensures))
+part-search-start-2 c =
+    let at-seed-a-start = c .before .before .before .before in
+    omega (arith, at-seed-a-start .before .e-start .ensures, at-seed-a-start .seed-a-start .ensures)
 
 part-search-end-2 : tie.Need-part-search-end-2
 part-search-end-2 c =
-    let start = c .before .before .before .before .before .before .before .before .before .before .before .before in
-    omega (arith, e-ends (start .args .set) (start .args .secret .now) (start .pre .0 .long) (c .before .before .e-start .ensures) (c .before .seed-a-start .ensures))
+    let at-seed-a-start = c .before .before .before .before in
+    let at-e-start = at-seed-a-start .before in
+    let start = at-e-start .before .before .before .before .before .before .before .before .before .before in
+    e-ends (start .args .set) (start .args .secret .now) (start .pre .0 .long) (at-e-start .e-start .ensures) (at-seed-a-start .seed-a-start .ensures)
 
 sub-search-3 : tie.Need-sub-search-3
-sub-search-3 c = omega arith
+sub-search-3 c =
+    let at-seed-y-start = c .before .before .before .before in
+    omega (arith, at-seed-y-start .before .seed-a-start .ensures, at-seed-y-start .seed-y-start .ensures)
 
 part-search-start-3 : tie.Need-part-search-start-3
-part-search-start-3 c = omega arith
+part-search-start-3 c =
+    let at-seed-y-start = c .before .before .before .before in
+    omega (arith, at-seed-y-start .before .seed-a-start .ensures, at-seed-y-start .seed-y-start .ensures)
 
 part-search-end-3 : tie.Need-part-search-end-3
 part-search-end-3 c =
-    let start = c .before .before .before .before .before .before .before .before .before .before .before .before .before in
-    omega (arith, key-fits (start .pre .0) (c .before .before .before .e-start .ensures) (c .before .before .seed-a-start .ensures))
+    let at-seed-y-start = c .before .before .before .before in
+    let start = at-seed-y-start .before .before .before .before .before .before .before .before .before .before .before .before in
+    omega (arith, at-seed-y-start .seed-y-start .ensures, start .pre .0 .long)
 
 sub-search-4 : tie.Need-sub-search-4
-sub-search-4 c = omega arith
+sub-search-4 c =
+    let at-secret-bytes = c .before .before .before in
+    omega (arith, at-secret-bytes .before .g-start .ensures, at-secret-bytes .secret-bytes .ensures)
 
 part-search-start-4 : tie.Need-part-search-start-4
-part-search-start-4 c = omega arith
+part-search-start-4 c =
+    let at-secret-bytes = c .before .before .before in
+    omega (arith, at-secret-bytes .before .g-start .ensures, at-secret-bytes .secret-bytes .ensures)
 
 part-search-end-4 : tie.Need-part-search-end-4
 part-search-end-4 c =
-    let start = c .before .before .before .before .before .before .before .before .before .before .before .before .before .before in
-    omega (arith, key-fits (start .pre .0) (c .before .before .before .before .e-start .ensures) (c .before .before .before .seed-a-start .ensures))
+    let at-secret-bytes = c .before .before .before in
+    let start = at-secret-bytes .before .before .before .before .before .before .before .before .before .before .before .before .before .before in
+    omega (arith, at-secret-bytes .secret-bytes .ensures, start .pre .0 .long)
 
 search-requires : tie.Need-search-requires
 search-requires c κs =
-    let at-seed-a-start = c .before .before .before .before .before .before .before .before .before .before .before .before .before in
+    let at-secret-bytes = c .before .before .before .before .before .before .before .before .before .before .before .before .before in
+    let at-seed-a-start = at-secret-bytes .before .before .before in
     let at-e-start = at-seed-a-start .before in
     let start = at-e-start .before .before .before .before .before .before .before .before .before .before in
     (key-secrets (start .pre .0) (at-e-start .e-start .ensures) (at-seed-a-start .seed-a-start .ensures), (start .pre .1, start .pre .0 .few))
@@ -132,11 +151,16 @@ same-length-9 c =
 returns : tie.Need-returns
 returns c =
     let at-search = c .before .before .before .before .before .before .before .before .before .before .before .before .before .before .before in
-    let at-seed-a-start = at-search .before .before .before .before .before .before .before .before .before .before .before .before .before .before in
+    let at-secret-bytes = at-search .before .before .before .before .before .before .before .before .before .before .before .before .before .before in
+    let at-g-start = at-secret-bytes .before in
+    let at-seed-y-start = at-g-start .before in
+    let at-seed-a-start = at-seed-y-start .before in
     let at-e-start = at-seed-a-start .before in
     let start = at-e-start .before .before .before .before .before .before .before .before .before .before in
     let arg = start .args in
-    at-search .search .ensures ∙ ap (λ (k : Key). search (attempt (arg .set) k (arg .digest .now) (arg .rand .now)) (arg .budget)) (key-is (start .pre .0) (at-e-start .e-start .ensures) (at-seed-a-start .seed-a-start .ensures))
+    at-search .search .ensures
+    ∙ ap (λ (k : Key). search (attempt (arg .set) k (arg .digest .now) (arg .rand .now)) (arg .budget))
+    (key-is (start .pre .0) (at-e-start .e-start .ensures) (at-seed-a-start .seed-a-start .ensures) (at-seed-y-start .seed-y-start .ensures) (at-g-start .g-start .ensures) (at-secret-bytes .secret-bytes .ensures))
 
 pub search-key-spec : {M : Type 1} → statement M
 search-key-spec =
@@ -144,9 +168,9 @@ search-key-spec =
     (tie.spec
     e-start-requires
     seed-a-start-requires
-    add-seed-end
-    add-g-at
-    add-g-end
+    seed-y-start-requires
+    g-start-requires
+    secret-bytes-requires
     sub-search
     part-search-start
     part-search-end
