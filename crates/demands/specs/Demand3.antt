@@ -11,17 +11,17 @@
 -- What the names stand for is in the specs of `keys`, `signing` and `checking`.
 -- Assumes nothing.
 use mathlib.Core.Path.{_≡_, refl, sym, ap, ap₂, subst, _∙_}
-use mathlib.Core.Bool.{Bool, true, false, cond, _&&_, true≢false}
+use mathlib.Core.Bool.{Bool, true, false, cond, true≢false}
 use mathlib.Core.Logic.{_⊎_, inl, inr, ⊎-elim, _↔_}
 use mathlib.Core.List.{List, [], _∷_}
 use Prim.Native.Nat.{ℕ, zero, suc, _+_, _*_, _/_, _^_, _≤_, _<_}
 use native.Mathlib.Omega.{arith}
-use lib.Dec.{eqb, leb, lit≤, lit<}
+use lib.Dec.{leb, lit≤, lit<}
 use lib.ListN.{length}
 use lib.IntN.{ℤ, pos, negsuc, natAbs}
-use borrow.Author.Tests.{eqb-true, leb-true, lt-ltb}
+use borrow.Author.Tests.{leb-true, lt-ltb}
 use Rattle.whole.specs.Refusal.{_orElse_, answer, every}
-use Rattle.whole.specs.RefusalLaws.{both-first, both-second, answer-first, answer-rest, every-joined, every-map, every-always, eachBelow-all, answer-most}
+use Rattle.whole.specs.RefusalLaws.{same-first, same-rest, answer-first, answer-rest, every-joined, every-map, every-always, eachBelow-all, answer-most}
 use Rattle.rounding.specs.Parts.{high, high-bound}
 use Rattle.rounding.specs.Tests.{fitsByte}
 use Rattle.sets.specs.declared.Numbers.{Numbers}
@@ -30,7 +30,7 @@ use Rattle.sets.specs.Limits.{messageLimit}
 use Rattle.sets.specs.SetI.{setI, setI-good}
 use Rattle.sampling.specs.Streams.{messageDigest, keyDigest, randOf, yOf, challenge, encOf}
 use Rattle.sampling.specs.StreamsLaws.{shake-length}
-use Rattle.records.specs.Layout.{seedBytes, publicBytes, secretBytes}
+use Rattle.records.specs.Layout.{seedBytes}
 use Rattle.records.specs.Public.{packedT}
 use Rattle.records.specs.Secret.{secretSeedY}
 use Rattle.records.specs.SecretPlaces.{SecretLengths}
@@ -59,37 +59,17 @@ record Accepted (set : Numbers) (s e seedA seedY : List ℕ) : Type 0 where
 key-accepted : (set : Numbers) (s e seedA seedY : List ℕ) (publicLength secretLength : ℕ) → answer (makeKeyTests set s e seedA seedY publicLength secretLength) ≡ 0 → Accepted set s e seedA seedY
 unfolding makeKeyTests
 key-accepted set s e seedA seedY publicLength secretLength h =
+    let lengths = answer-first _ 0 _ h in
+    let after-s = same-rest (length s) (set .n) _ lengths in
+    let after-e = same-rest (length e) (set .k * set .n) _ after-s in
+    let after-seedA = same-rest (length seedA) seedBytes _ after-e in
     record {
-      s-long = eqb-true (length s) (set .n) (both-first b₁ (b₂ && (b₃ && (b₄ && b₅))) lengths);
-      e-long = eqb-true (length e) (set .k * set .n) (both-first b₂ (b₃ && (b₄ && b₅)) after-1);
-      seedA-long = eqb-true (length seedA) seedBytes (both-first b₃ (b₄ && b₅) after-2);
-      seedY-long = eqb-true (length seedY) seedBytes (both-first b₄ b₅ (both-second b₃ (b₄ && b₅) after-2));
+      s-long = same-first (length s) (set .n) _ lengths;
+      e-long = same-first (length e) (set .k * set .n) _ after-s;
+      seedA-long = same-first (length seedA) seedBytes _ after-e;
+      seedY-long = same-first (length seedY) seedBytes _ after-seedA;
       checkE = answer-first (eachEPasses set e) 6 [] (answer-rest _ 5 _ (answer-rest _ 4 _ (answer-rest _ 0 _ h)));
     }
-  where
-    b₁ : Bool
-    b₁ = eqb (length s) (set .n)
-
-    b₂ : Bool
-    b₂ = eqb (length e) (set .k * set .n)
-
-    b₃ : Bool
-    b₃ = eqb (length seedA) seedBytes
-
-    b₄ : Bool
-    b₄ = eqb (length seedY) seedBytes
-
-    b₅ : Bool
-    b₅ = eqb publicLength (publicBytes set) && eqb secretLength (secretBytes set)
-
-    lengths : (b₁ && (b₂ && (b₃ && (b₄ && b₅)))) ≡ true
-    lengths = answer-first _ 0 _ h
-
-    after-1 : (b₂ && (b₃ && (b₄ && b₅))) ≡ true
-    after-1 = both-second b₁ (b₂ && (b₃ && (b₄ && b₅))) lengths
-
-    after-2 : (b₃ && (b₄ && b₅)) ≡ true
-    after-2 = both-second b₂ (b₃ && (b₄ && b₅)) after-1
 
 module _ (set : Numbers) (good : Good set) (s e seedA seedY : List ℕ) (a : Accepted set s e seedA seedY) where
   secret-lengths : SecretLengths set s e seedA seedY (keyDigest set (packedT set (allKeyT set s e seedA)))

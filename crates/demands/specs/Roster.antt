@@ -6,11 +6,11 @@ use mathlib.Core.Bool.{true}
 use mathlib.Core.List.{List, []}
 use Prim.Native.Nat.{ℕ, _≤_, _<_}
 use native.Mathlib.Omega.{arith}
-use lib.Dec.{eqb, leb}
+use lib.Dec.{leb}
 use lib.ListN.{length}
 use borrow.Author.Tests.{eqb-true, leb-true, eq-eqb, le-leb}
 use Rattle.whole.specs.Refusal.{answer}
-use Rattle.whole.specs.RefusalLaws.{both, both-second, answer-pass, answer-none, answer-first, answer-rest, after-done}
+use Rattle.whole.specs.RefusalLaws.{both, both-second, same-rest, answer-pass, answer-none, answer-first, answer-rest, after-done}
 use Rattle.sets.specs.declared.Numbers.{Numbers}
 use Rattle.sets.specs.Good.{Good}
 use Rattle.sets.specs.Limits.{messageLimit}
@@ -26,8 +26,7 @@ use Rattle.demands.specs.Demand3.{number, signature, demand-3}
 accepted-signature : (set : Numbers) (public message sig : List ℕ) → answer (checkTests set public message sig) ≡ 0 → length sig ≡ signatureBytes set
 unfolding checkTests
 accepted-signature set public message sig h =
-    eqb-true (length sig) (signatureBytes set)
-    (both-second (eqb (length public) (publicBytes set)) (eqb (length sig) (signatureBytes set)) (answer-first _ 0 _ h))
+    eqb-true (length sig) (signatureBytes set) (same-rest (length public) (publicBytes set) _ (answer-first _ 0 _ h))
 
 accepted-message : (set : Numbers) (public message sig : List ℕ) → answer (checkTests set public message sig) ≡ 0 → length message ≤ messageLimit
 unfolding checkTests
