@@ -8,14 +8,14 @@ use Prim.Native.Nat.{ℕ, _+_, _-_, _^_, _≤_, _<_}
 use native.Mathlib.Omega.{arith}
 use lib.IntN.{ℤ, pos, natAbs, _+ℤ_, _-ℤ_}
 use Rattle.whole.specs.Int.{as-difference, differences, difference-same}
-use Rattle.whole.specs.Residue.{residue, residue-same, residue-eq, Same, same-refl, same-eq, same-sym, same-trans, same-add, same-minus, same-less}
+use Rattle.whole.specs.Residue.{residue-eq, Same, same-refl, same-eq, same-sym, same-trans, same-add, same-minus, same-less}
 use Rattle.whole.specs.Table.{table-ext, getD-table}
 use Rattle.rounding.specs.Centred.{centred, Central, centred-central, centred-same}
 use Rattle.rounding.specs.Parts.{low, high, low-eq, high-eq, rounds-alike}
 use Rattle.rounding.specs.Tests.{lowPasses, sizePasses}
 use borrow.Author.Tests.{ltb-true}
 use Rattle.ring.specs.Product.{Poly, mul, mul-ext, mul-add, add-mul, mul-assoc, mul-same}
-use Rattle.ring.specs.Lists.{naturals, integers, signedBytes}
+use Rattle.ring.specs.Lists.{naturals, integers, signedBytes, residues-at}
 use Rattle.sampling.specs.Positions.{polynomialOf}
 use Rattle.sampling.specs.Streams.{aOf, encOf}
 use Rattle.sets.specs.declared.Numbers.{Numbers}
@@ -71,14 +71,10 @@ module _ (set : Numbers) (q-some : 0 < set .q) (s e seedA : List ℕ) (y : List 
           (λ i l. getD-table n i (λ j. integers y j +ℤ mul n S C j) (pos 0) l)
 
       t-same : (l : ℕ) → l < n → Same (set .q) (naturals (keyT set s e seedA i) l) (mul n a S l +ℤ E l)
-      t-same l h =
-          same-trans (same-eq (set .q) (ap pos (getD-table n l (λ j. residue (set .q) (mul n a S j +ℤ E j)) 0 h)))
-          (same-sym (residue-same (set .q) (mul n a S l +ℤ E l) q-some))
+      t-same l h = residues-at (set .q) n (λ j. mul n a S j +ℤ E j) l q-some h
 
       v-same : (j : ℕ) → j < n → Same (set .q) (mul n a (integers y) j) (naturals (vOf set seedA y i) j)
-      v-same j h =
-          same-trans (residue-same (set .q) (mul n a (integers y) j) q-some)
-          (same-eq (set .q) (ap pos (sym (getD-table n j (λ j. residue (set .q) (mul n a (integers y) j)) 0 h))))
+      v-same j h = same-sym (residues-at (set .q) n (mul n a (integers y)) j q-some h)
 
 -- ---- what the two tests on w_i leave room for
 

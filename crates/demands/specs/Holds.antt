@@ -10,14 +10,14 @@ use lib.Seq.{ext-getD}
 use lib.IntN.{ℤ, pos, natAbs, _+ℤ_, _-ℤ_}
 use borrow.Author.Tests.{eq-eqb, leb-true, le-leb}
 use Rattle.whole.specs.Int.{int, minus-is, sum-is}
-use Rattle.whole.specs.Residue.{residue, residue-same, Same, same-eq, same-trans, same-add, same-refl}
-use Rattle.whole.specs.Table.{length-table, getD-table, joined-ext, joined-part}
+use Rattle.whole.specs.Residue.{Same, same-eq, same-sym, same-trans, same-add, same-refl}
+use Rattle.whole.specs.Table.{joined-ext, joined-part}
 use Rattle.whole.specs.Refusal.{answer, every, eachBelow, sameBytes}
 use Rattle.whole.specs.RefusalLaws.{both, both-first, both-second, answer-pass, answer-none, every-at, eachBelow-at, same-refl-bytes}
 use Rattle.rounding.specs.Parts.{high}
 use Rattle.rounding.specs.Tests.{lowPasses, sizePasses, fitsByte}
 use Rattle.ring.specs.Product.{mul}
-use Rattle.ring.specs.Lists.{naturals, integers, signedBytes, residues}
+use Rattle.ring.specs.Lists.{naturals, integers, signedBytes, residues, residues-at}
 use Rattle.ring.specs.Largest.{largest, sizes, sumPasses}
 use Rattle.ring.specs.Bound.{AtMost, bytes-bound}
 use Rattle.sets.specs.declared.Numbers.{Numbers}
@@ -130,19 +130,20 @@ module _ (set : Numbers) (good : Good set) (s e seedA : List ℕ) where
         apart : v ≡ (v -ℤ x) +ℤ x
         apart = omega (int, minus-is v x, sum-is (v -ℤ x) x)
 
-        w-is : getD w j 0 ≡ residue (set .q) (v -ℤ x)
-        w-is = getD-table (set .n) j (λ j. residue (set .q) (naturals (vOf set seedA y i) j -ℤ mul (set .n) (signedBytes (eOf set e i)) (polynomialOf (encOf set c′)) j)) 0 m
+        -- w before its residues are taken
+        left : ℕ → ℤ
+        left j = naturals (vOf set seedA y i) j -ℤ mul (set .n) (signedBytes (eOf set e i)) (polynomialOf (encOf set c′)) j
 
         both-pass : wPasses set w ≡ true
         both-pass = eachBelow-at (set .k) i _ passed l
 
         long : j < length w
-        long = omega (arith, m, length-table (set .n) (λ j. residue (set .q) (naturals (vOf set seedA y i) j -ℤ mul (set .n) (signedBytes (eOf set e i)) (polynomialOf (encOf set c′)) j)))
+        long = omega (arith, m, wOf-length set e (vOf set seedA y) (encOf set c′) i)
 
-        moved : Same (set .q) (pos (getD (vOf set seedA y i) j 0)) (pos (getD w j 0) +ℤ x)
+        moved : Same (set .q) v (naturals w j +ℤ x)
         moved =
             same-trans (same-eq (set .q) apart)
-            (same-add (same-trans (residue-same (set .q) (v -ℤ x) (q-some good)) (same-eq (set .q) (ap pos (sym w-is)))) (same-refl (set .q) x))
+            (same-add (same-sym (residues-at (set .q) (set .n) left j (q-some good) m)) (same-refl (set .q) x))
 
     -- t_i is read from the record as key making made it
     same-t : (i : ℕ) → i < set .k
