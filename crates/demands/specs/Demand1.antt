@@ -5,7 +5,7 @@
 -- `entries`: in none has a test the number 0; `rising` has those whose numbers rise, so that they answer the lowest that applies.
 -- Opening and reading an envelope test in an order of their own, and the program makes one test before opening's.
 -- Assumes nothing.
-use mathlib.Core.Path.{_≡_, refl, sym, ap, subst, _∙_}
+use mathlib.Core.Path.{_≡_, refl, sym, subst, _∙_}
 use mathlib.Core.Bool.{Bool, true, false, cond, true≢false}
 use mathlib.Core.List.{List, [], _∷_}
 use Prim.Native.Nat.{ℕ, zero, suc, _≤_}
@@ -14,6 +14,7 @@ use native.Mathlib.Omega.{arith}
 use lib.Dec.{lit≤}
 use lib.IntN.{ℤ}
 use Rattle.whole.specs.Refusal.{Test, answer, after}
+use Rattle.whole.specs.RefusalLaws.{after-refused}
 use Rattle.sets.specs.declared.Numbers.{Numbers}
 use Rattle.sampling.specs.Lent.{testsA, testsY, testsEnc}
 use Rattle.records.specs.Public.{readPublicTests, writePublicTests}
@@ -63,8 +64,7 @@ all-pass (t ∷ ts) (more m n ns) e = step-all t ts m n (t .passes) refl (all-pa
 
 -- a refusal leaves an output as it was
 pub untouched : {A : Type 0} (ts : List Test) (number : ℕ) (new old : A) → answer ts ≡ suc number → after (answer ts) new old ≡ old
-unfolding after
-untouched ts number new old e = ap (λ (n : ℕ). after n new old) e
+untouched ts number new old e = after-refused number new old e
 
 -- ---- the lowest number that applies
 
