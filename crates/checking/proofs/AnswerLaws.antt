@@ -31,10 +31,6 @@ use Rattle.checking.specs.declared.CheckAnswer.the-variants.{Accepted, L
 use Rattle.checking.specs.Answers.{checkAnswerNumber}
 use Rattle.checking.proofs.CheckAnswer.{the-type}
 
--- where the first of two tests passes the second decides
-pub second-decides : {a : Bool} (b : Bool) → a ≡ true → b ≡ (a && b)
-second-decides b e = rw e
-
 -- ---- the last two
 
 pub hash-high : {fits : Bool} (found c′ : List ℕ) → fits ≡ false → answer (hashTests fits found c′) ≡ 10

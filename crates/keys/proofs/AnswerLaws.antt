@@ -1,5 +1,4 @@
 -- The tests of key making in a row, what each of them makes of the answer, and the outputs after it.
---     second-decides                                        two tests of which the first passes
 --     key-length, key-secret, key-sumS, key-sumE, key-done  the tests
 --     e-asks                                                what checkE asks once the lengths are right
 --     both-asks                                             what writing both records asks
@@ -16,9 +15,9 @@ use lib.Dec.{eqb}
 use lib.ListN.{length}
 use types.Run.{OneOf}
 use denote.Enum.Declared.{tagOf}
-use borrow.Author.Tests.{eqb-true, ne-eqb}
+use borrow.Author.Tests.{eqb-true}
 use Rattle.whole.specs.Refusal.{answer, after}
-use Rattle.whole.specs.RefusalLaws.{not-first, not-second, both-first, both-second, answer-pass, answer-fail, answer-none, answer-first, output-kept}
+use Rattle.whole.specs.RefusalLaws.{both-first, both-second, answer-pass, answer-fail, answer-none, answer-first, output-kept}
 use Rattle.ring.specs.Largest.{sumPasses}
 use Rattle.sets.specs.declared.Numbers.{Numbers}
 use Rattle.sets.specs.SetI.{setI}
@@ -32,35 +31,11 @@ use Rattle.keys.specs.Asks.{ForBoth, ForE, ForTests, Scratch}
 use Rattle.keys.specs.Key.{eachEPasses, makeKeyTests, publicOf, secretOf}
 use Rattle.keys.proofs.KeyAnswer.{the-type}
 
--- where the first of two tests passes the second decides
-pub second-decides : {a : Bool} (b : Bool) → a ≡ true → b ≡ (a && b)
-second-decides b e = rw e
-
 -- ---- the tests
 
 abbrev pub Lengths : Numbers → ℕ → ℕ → ℕ → ℕ → ℕ → ℕ → Bool
 Lengths set s e seedA seedY public secret =
     eqb s (set .n) && (eqb e (set .k * set .n) && (eqb seedA seedBytes && (eqb seedY seedBytes && (eqb public (publicBytes set) && eqb secret (secretBytes set)))))
-
--- a length that is not the one named
-module _ (set : Numbers) (s e seedA seedY public secret : ℕ) where
-  pub s-unlike : (s ≡ set .n → ⊥) → Lengths set s e seedA seedY public secret ≡ false
-  s-unlike h = not-first _ (ne-eqb s (set .n) h)
-
-  pub e-unlike : (e ≡ set .k * set .n → ⊥) → Lengths set s e seedA seedY public secret ≡ false
-  e-unlike h = not-second (eqb s (set .n)) (not-first _ (ne-eqb e (set .k * set .n) h))
-
-  pub seedA-unlike : (seedA ≡ seedBytes → ⊥) → Lengths set s e seedA seedY public secret ≡ false
-  seedA-unlike h = not-second (eqb s (set .n)) (not-second (eqb e (set .k * set .n)) (not-first _ (ne-eqb seedA seedBytes h)))
-
-  pub seedY-unlike : (seedY ≡ seedBytes → ⊥) → Lengths set s e seedA seedY public secret ≡ false
-  seedY-unlike h =
-      not-second (eqb s (set .n)) (not-second (eqb e (set .k * set .n)) (not-second (eqb seedA seedBytes) (not-first _ (ne-eqb seedY seedBytes h))))
-
-  pub public-unlike : (public ≡ publicBytes set → ⊥) → Lengths set s e seedA seedY public secret ≡ false
-  public-unlike h =
-      not-second (eqb s (set .n))
-      (not-second (eqb e (set .k * set .n)) (not-second (eqb seedA seedBytes) (not-second (eqb seedY seedBytes) (not-first _ (ne-eqb public (publicBytes set) h)))))
 
 module _ (set : Numbers) (s e seedA seedY : List ℕ) (public secret : ℕ) where
   pub key-length : Lengths set (length s) (length e) (length seedA) (length seedY) public secret ≡ false

@@ -1,10 +1,8 @@
 -- `checking::tests::lengths` meets its contract. Assumes nothing.
 use borrow.Author.Needs.{needs}
-use borrow.Author.Tests.{eq-eqb, ne-eqb}
 use mathlib.Core.Path.{sym, ap, _∙_}
 use lib.Dec.{eqb}
-use Rattle.whole.specs.RefusalLaws.{not-first}
-use Rattle.checking.proofs.AnswerLaws.{second-decides}
+use Rattle.whole.specs.RefusalLaws.{and-same, and-differs}
 use Rattle.checking.proofs.tests.lengths.Statement.{statement}
 use Rattle.checking.proofs.tests.lengths.Tie as tie
 
@@ -16,11 +14,10 @@ signature-bytes-requires c κs = search needs
 
 returns : tie.Need-returns
 returns c =
-    ap (eqb (c .before .before .before .args .signature)) (c .signature-bytes .ensures)
-    ∙ second-decides _ (eq-eqb _ _ (c .before .if1 .taken ∙ c .before .before .public-bytes .ensures))
+    and-same (c .before .if1 .taken ∙ c .before .before .public-bytes .ensures) (ap (eqb _) (c .signature-bytes .ensures))
 
 returns-2 : tie.Need-returns-2
-returns-2 c = sym (not-first _ (ne-eqb _ _ (λ e. c .if1 .left (e ∙ sym (c .before .public-bytes .ensures)))))
+returns-2 c = and-differs _ (λ e. c .if1 .left (e ∙ sym (c .before .public-bytes .ensures)))
 
 pub lengths-spec : {M : Type 1} → statement M
 lengths-spec = tie.close (tie.spec public-bytes-requires signature-bytes-requires returns returns-2)
