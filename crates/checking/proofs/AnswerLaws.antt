@@ -15,7 +15,7 @@ use lib.IntN.{ℤ}
 use lib.ListN.{length}
 use borrow.Author.Tests.{eqb-true, le-leb, lt-leb}
 use Rattle.whole.specs.Refusal.{answer, sameBytes}
-use Rattle.whole.specs.RefusalLaws.{both-first, both-second, answer-pass, answer-fail, answer-none, answer-first, answer-rest, answer-before}
+use Rattle.whole.specs.RefusalLaws.{both-first, both-second, same-first, same-rest, answer-pass, answer-fail, answer-none, answer-first, answer-rest, answer-before}
 use Rattle.sets.specs.declared.Numbers.{Numbers}
 use Rattle.sets.specs.SetI.{setI, setI-good}
 use Rattle.sets.specs.Limits.{messageLimit}
@@ -95,7 +95,7 @@ module _ (set : Numbers) (public signature scratch : List ℕ) (room : Room set 
   range-asks =
       record {
         good = room .signs .good;
-        long = eqb-true (length public) (publicBytes set) (both-first _ (eqb (length signature) (signatureBytes set)) lengths);
+        long = same-first (length public) (publicBytes set) _ lengths;
         mark = both-first (marked set 1 public) (marked set 3 signature) marks;
         room = room .scratch-long;
       }
@@ -104,7 +104,7 @@ module _ (set : Numbers) (public signature scratch : List ℕ) (room : Room set 
   z-asks kept =
       record {
         room = record { signs = room .signs; scratch-long = kept ∙ room .scratch-long };
-        long = eqb-true (length signature) (signatureBytes set) (both-second (eqb (length public) (publicBytes set)) _ lengths);
+        long = eqb-true _ _ (same-rest (length public) (publicBytes set) _ lengths);
         mark = both-second (marked set 1 public) (marked set 3 signature) marks;
       }
 
@@ -131,8 +131,8 @@ module _ (set : Numbers) (public message signature : List ℕ) where
     unfolding inputTests
     inputs-tested =
         record {
-          public-long = eqb-true (length public) (publicBytes set) (both-first _ (eqb (length signature) (signatureBytes set)) (answer-first _ 0 _ passed));
-          signature-long = eqb-true (length signature) (signatureBytes set) (both-second (eqb (length public) (publicBytes set)) _ (answer-first _ 0 _ passed));
+          public-long = same-first (length public) (publicBytes set) _ (answer-first _ 0 _ passed);
+          signature-long = eqb-true _ _ (same-rest (length public) (publicBytes set) _ (answer-first _ 0 _ passed));
           t-inside = answer-first _ 4 _ (answer-rest _ 2 _ (answer-rest _ 1 _ (answer-rest _ 0 _ passed)));
           z-inside = answer-first _ 8 _ (answer-rest _ 4 _ (answer-rest _ 2 _ (answer-rest _ 1 _ (answer-rest _ 0 _ passed))));
         }

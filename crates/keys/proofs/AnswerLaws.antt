@@ -17,7 +17,7 @@ use types.Run.{OneOf}
 use denote.Enum.Declared.{tagOf}
 use borrow.Author.Tests.{eqb-true}
 use Rattle.whole.specs.Refusal.{answer, after}
-use Rattle.whole.specs.RefusalLaws.{both-first, both-second, answer-pass, answer-fail, answer-none, answer-first, output-kept}
+use Rattle.whole.specs.RefusalLaws.{same-first, same-rest, answer-pass, answer-fail, answer-none, answer-first, output-kept}
 use Rattle.ring.specs.Largest.{sumPasses}
 use Rattle.sets.specs.declared.Numbers.{Numbers}
 use Rattle.sets.specs.SetI.{setI}
@@ -68,7 +68,7 @@ module _ (set : Numbers) (s e seedA seedY : List ℕ) (public secret : ℕ) wher
     e-asks slots₁ asked kept =
         record {
           good = asked .good;
-          e-long = eqb-true (length e) (set .k * set .n) (both-first _ _ (both-second (eqb (length s) (set .n)) _ lengths));
+          e-long = same-first (length e) (set .k * set .n) _ (same-rest (length s) (set .n) _ lengths);
           slots-long = kept ∙ asked .slots-long;
         }
 
@@ -83,30 +83,30 @@ module _ (set : Numbers) (s e seedA seedY public secret : List ℕ) where
         for-public =
             record {
               writes = scratch .writes;
-              s-long = eqb-true (length s) (set .n) (both-first _ _ lengths);
-              e-long = eqb-true (length e) (set .k * set .n) (both-first _ _ second);
-              seedA-long = eqb-true (length seedA) seedBytes (both-first _ _ third);
-              public-long = eqb-true (length public) (publicBytes set) (both-first _ _ fifth);
+              s-long = same-first (length s) (set .n) _ lengths;
+              e-long = same-first (length e) (set .k * set .n) _ second;
+              seedA-long = same-first (length seedA) seedBytes _ third;
+              public-long = same-first (length public) (publicBytes set) _ fifth;
               places = scratch .places;
             };
-        seedY-long = eqb-true (length seedY) seedBytes (both-first _ _ fourth);
-        secret-long = eqb-true (length secret) (secretBytes set) (both-second (eqb (length public) (publicBytes set)) _ fifth);
+        seedY-long = same-first (length seedY) seedBytes _ fourth;
+        secret-long = eqb-true _ _ (same-rest (length public) (publicBytes set) _ fifth);
       }
     where
       lengths : Lengths set (length s) (length e) (length seedA) (length seedY) (length public) (length secret) ≡ true
       lengths = answer-first _ 0 _ passed
 
       second : (eqb (length e) (set .k * set .n) && (eqb (length seedA) seedBytes && (eqb (length seedY) seedBytes && (eqb (length public) (publicBytes set) && eqb (length secret) (secretBytes set))))) ≡ true
-      second = both-second (eqb (length s) (set .n)) _ lengths
+      second = same-rest (length s) (set .n) _ lengths
 
       third : (eqb (length seedA) seedBytes && (eqb (length seedY) seedBytes && (eqb (length public) (publicBytes set) && eqb (length secret) (secretBytes set)))) ≡ true
-      third = both-second (eqb (length e) (set .k * set .n)) _ second
+      third = same-rest (length e) (set .k * set .n) _ second
 
       fourth : (eqb (length seedY) seedBytes && (eqb (length public) (publicBytes set) && eqb (length secret) (secretBytes set))) ≡ true
-      fourth = both-second (eqb (length seedA) seedBytes) _ third
+      fourth = same-rest (length seedA) seedBytes _ third
 
       fifth : (eqb (length public) (publicBytes set) && eqb (length secret) (secretBytes set)) ≡ true
-      fifth = both-second (eqb (length seedY) seedBytes) _ fourth
+      fifth = same-rest (length seedY) seedBytes _ fourth
 
 -- ---- the outputs
 
