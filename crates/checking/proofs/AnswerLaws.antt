@@ -2,14 +2,12 @@
 --     input-length, input-mark, input-message, input-t, input-z, input-passes      those of the inputs
 --     hash-high, hash-differs, hash-accepts      the last two tests
 -- Assumes nothing.
-use mathlib.Core.Path.{_≡_, refl, sym, ap, subst, _∙_}
+use mathlib.Core.Path.{_≡_, sym, ap, subst, _∙_}
 use mathlib.Core.Bool.{Bool, true, false, _&&_}
-use mathlib.Core.Logic.{⊎-elim}
-use types.Run.{OneOf}
+use types.Run.{OneOf, miss}
 use denote.Enum.Declared.{tagOf}
 use mathlib.Core.List.{List, [], _∷_}
 use Prim.Native.Nat.{ℕ, suc, _≤_, _<_}
-use native.Mathlib.Omega.{arith}
 use lib.Dec.{eqb, lit<}
 use lib.IntN.{ℤ}
 use lib.ListN.{length}
@@ -139,19 +137,10 @@ module _ (set : Numbers) (public message signature : List ℕ) where
 
 -- ---- the answer of the inputs' tests, where it is a refusal and where it is not
 
-not-accepted : {tag : ℕ} → OneOf (1 ∷ 2 ∷ 3 ∷ 4 ∷ 5 ∷ 6 ∷ 7 ∷ []) tag → tag ≡ 0 → ⊥
-not-accepted h e =
-    ⊎-elim (λ l. omega arith)
-    (λ h₂. ⊎-elim (λ l. omega arith)
-    (λ h₃. ⊎-elim (λ l. omega arith)
-    (λ h₄. ⊎-elim (λ l. omega arith)
-    (λ h₅. ⊎-elim (λ l. omega arith)
-    (λ h₆. ⊎-elim (λ l. omega arith) (λ l. omega arith) h₆) h₅) h₄) h₃) h₂) h
-
 module _ (set : Numbers) (public message signature : List ℕ) where
   pub refused : (r : CheckAnswer) → OneOf (1 ∷ 2 ∷ 3 ∷ 4 ∷ 5 ∷ 6 ∷ 7 ∷ []) (tagOf the-type r)
       → checkAnswerNumber r ≡ answer (inputTests set public (length message) signature) → checkAnswerNumber r ≡ answer (checkTests set public message signature)
-  refused Accepted h e = absurd (not-accepted h refl)
+  refused Accepted h e = absurd (miss (1 ∷ 2 ∷ 3 ∷ 4 ∷ 5 ∷ 6 ∷ 7 ∷ []) 0 tt h)
   refused Length h e = sym (check-refused set public message signature 0 (sym e))
   refused Mark h e = sym (check-refused set public message signature 1 (sym e))
   refused Message h e = sym (check-refused set public message signature 2 (sym e))

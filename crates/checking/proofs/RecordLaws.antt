@@ -2,12 +2,11 @@
 -- Assumes nothing.
 use mathlib.Core.Path.{_≡_, refl, sym, ap, _∙_}
 use mathlib.Core.Bool.{Bool, true, false}
-use mathlib.Core.Logic.{⊎-elim}
 use mathlib.Core.List.{List, [], _∷_}
 use Prim.Native.Nat.{ℕ, suc}
 use native.Mathlib.Omega.{arith}
 use lib.ListN.{length}
-use types.Run.{OneOf}
+use types.Run.{OneOf, miss}
 use denote.Enum.Declared.{tagOf}
 use borrow.Author.Tests.{eq-eqb}
 use Rattle.whole.specs.Refusal.{_orElse_, answer}
@@ -36,17 +35,14 @@ unfolding answer
 last-fails true m e h = absurd (h e)
 last-fails false m e h = refl
 
-refusal : {tag : ℕ} → OneOf (1 ∷ 2 ∷ 3 ∷ []) tag → tag ≡ 0 → ⊥
-refusal h e = ⊎-elim (λ l. omega arith) (λ h₂. ⊎-elim (λ l. omega arith) (λ l. omega arith) h₂) h
-
 key-refusal : (r : KeyRecord) → OneOf (1 ∷ 2 ∷ 3 ∷ []) (tagOf the-type r) → keyRecordNumber r ≡ 0 → ⊥
-key-refusal Done h e = refusal h refl
+key-refusal Done h e = miss (1 ∷ 2 ∷ 3 ∷ []) 0 tt h
 key-refusal Length h e = omega arith
 key-refusal Mark h e = omega arith
 key-refusal Value h e = omega arith
 
 signature-refusal : (r : SignatureRecord) → OneOf (1 ∷ 2 ∷ 3 ∷ []) (tagOf signature-type.the-type r) → signatureRecordNumber r ≡ 0 → ⊥
-signature-refusal answers.Done h e = refusal h refl
+signature-refusal answers.Done h e = miss (1 ∷ 2 ∷ 3 ∷ []) 0 tt h
 signature-refusal answers.Length h e = omega arith
 signature-refusal answers.Mark h e = omega arith
 signature-refusal answers.Value h e = omega arith
