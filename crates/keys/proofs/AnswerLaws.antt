@@ -5,15 +5,13 @@
 --     kept, done-number                                     an output after a refusal, and the number of what is done
 --     scratch-i, made-i                                     set I
 -- Assumes nothing.
-use mathlib.Core.Path.{_≡_, refl, sym, ap, subst, _∙_}
+use mathlib.Core.Path.{_≡_, sym, ap, subst, _∙_}
 use mathlib.Core.Bool.{Bool, true, false, _&&_}
-use mathlib.Core.Logic.{⊎-elim}
 use mathlib.Core.List.{List, [], _∷_}
 use Prim.Native.Nat.{ℕ, _*_}
-use native.Mathlib.Omega.{arith}
 use lib.Dec.{eqb}
 use lib.ListN.{length}
-use types.Run.{OneOf}
+use types.Run.{OneOf, miss}
 use denote.Enum.Declared.{tagOf}
 use borrow.Author.Tests.{eqb-true}
 use Rattle.whole.specs.Refusal.{answer, after}
@@ -110,14 +108,10 @@ module _ (set : Numbers) (s e seedA seedY public secret : List ℕ) where
 
 -- ---- the outputs
 
-not-done : {tag : ℕ} → OneOf (1 ∷ 2 ∷ 3 ∷ 4 ∷ []) tag → tag ≡ 0 → ⊥
-not-done h e =
-    ⊎-elim (λ l. omega arith) (λ h₂. ⊎-elim (λ l. omega arith) (λ h₃. ⊎-elim (λ l. omega arith) (λ l. omega arith) h₃) h₂) h
-
 -- an answer that is one of the refusals leaves an output as it was
 pub kept : {A : Type 0} (r : KeyAnswer) {number : ℕ} (new old : A) → OneOf (1 ∷ 2 ∷ 3 ∷ 4 ∷ []) (tagOf the-type r) → keyAnswerNumber r ≡ number
     → old ≡ after number new old
-kept Done new old h e = absurd (not-done h refl)
+kept Done new old h e = absurd (miss (1 ∷ 2 ∷ 3 ∷ 4 ∷ []) 0 tt h)
 kept Length new old h e = output-kept 0 new old e
 kept Secret new old h e = output-kept 4 new old e
 kept SumS new old h e = output-kept 5 new old e
