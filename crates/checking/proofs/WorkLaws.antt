@@ -8,13 +8,13 @@
 use mathlib.Core.Path.{_≡_, refl, sym, ap, ap₂, _∙_}
 use mathlib.Core.Bool.{true}
 use mathlib.Core.List.{List, [], _∷_, map}
-use Prim.Native.Nat.{ℕ, _+_, _*_, _-_, _<_}
+use Prim.Native.Nat.{ℕ, _+_, _*_, _-_}
 use native.Mathlib.Omega.{arith}
 use borrow.Author.Tests.{leb-true}
 use lib.IntN.{ℤ, pos, natAbs}
 use lib.ListN.{length, getD, take, drop, length-map}
 use Rattle.whole.specs.Below.{Below, below-cons, Within}
-use Rattle.whole.specs.Residue.{residue-lt, residue-eq, same-refl, same-minus, Same}
+use Rattle.whole.specs.Residue.{residue-lt, residue-eq, same-refl, same-minus}
 use Rattle.whole.specs.Refusal.{answer, every}
 use Rattle.whole.specs.RefusalLaws.{every-at}
 use Rattle.whole.specs.Table.{joined-ext, table-ext}
@@ -22,8 +22,8 @@ use Rattle.whole.specs.Twos.{twos}
 use Rattle.shake.specs.Sponge.{absorbed, squeezed}
 use Rattle.rounding.specs.Tests.{fitsByte, zPasses}
 use Rattle.ring.specs.Asks.{Small}
-use Rattle.ring.specs.Product.{mul, mul-same}
-use Rattle.ring.specs.Lists.{naturals, integers, residues, length-residues, residues-at, residues-below}
+use Rattle.ring.specs.Product.{mul}
+use Rattle.ring.specs.Lists.{naturals, integers, residues, length-residues, residues-below, mul-residues}
 use Rattle.sets.specs.declared.Numbers.{Numbers}
 use Rattle.sets.specs.Good.{Good}
 use Rattle.sets.specs.GoodLaws.{q-some}
@@ -145,13 +145,9 @@ wFrom-checkW : (set : Numbers) → Good set → (seedA : List ℕ) (t : ℕ → 
 unfolding wFrom checkW
 wFrom-checkW set good seedA t z c′ i =
     table-ext (set .n) _ _
-    (λ k l. residue-eq (set .q) _ _ (q-some good) (same-minus (product k l) (same-refl (set .q) (mul (set .n) (naturals (t i)) (polynomialOf (encOf set c′)) k))))
-  where
-    product : (k : ℕ) → k < set .n
-        → Same (set .q) (mul (set .n) (naturals (aOf set seedA i)) (naturals (residues (set .q) (set .n) (integers z))) k) (mul (set .n) (naturals (aOf set seedA i)) (integers z) k)
-    product k l =
-        mul-same (set .q) (set .n) _ _ _ _ k l (λ j m. same-refl (set .q) (naturals (aOf set seedA i) j))
-        (λ j m. residues-at (set .q) (set .n) (integers z) j (q-some good) m)
+    (λ k l. residue-eq (set .q) _ _ (q-some good)
+    (same-minus (mul-residues (set .q) (set .n) (naturals (aOf set seedA i)) (integers z) k (q-some good) l)
+    (same-refl (set .q) (mul (set .n) (naturals (t i)) (polynomialOf (encOf set c′)) k))))
 
 highs-check : (set : Numbers) → Good set → (public : List ℕ) (z : List ℤ) (c′ : List ℕ)
     → hashHighs set public (residues (set .q) (set .n) (integers z)) c′ ≡ checkHighs set (seedAOf set public) (tOf set public) z c′

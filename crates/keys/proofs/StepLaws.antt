@@ -8,8 +8,8 @@ use lib.IntN.{_+ℤ_}
 use lib.ListN.{length}
 use Rattle.whole.specs.Residue.{Same, same-refl, same-add, residue-eq}
 use Rattle.whole.specs.Table.{table-ext}
-use Rattle.ring.specs.Product.{mul, mul-same}
-use Rattle.ring.specs.Lists.{naturals, signedBytes, residues, length-residues, residues-at, residues-below}
+use Rattle.ring.specs.Product.{mul}
+use Rattle.ring.specs.Lists.{naturals, signedBytes, residues, length-residues, residues-at, residues-below, mul-residues}
 use Rattle.ring.specs.Asks.{Factors, WithBytes}
 use Rattle.sets.specs.declared.Numbers.{Numbers}
 use Rattle.sets.specs.Good.{Good}
@@ -60,10 +60,6 @@ pub tFrom-keyT : (set : Numbers) → Good set → (s e seedA : List ℕ) (i : �
 unfolding tFrom keyT
 tFrom-keyT set good s e seedA i =
     table-ext (set .n) _ _
-    (λ k l. residue-eq (set .q) _ _ (q-some good) (same-add (product k l) (same-refl (set .q) (signedBytes (eOf set e i) k))))
-  where
-    product : (k : ℕ) → k < set .n
-        → Same (set .q) (mul (set .n) (naturals (aOf set seedA i)) (naturals (residues (set .q) (set .n) (signedBytes s))) k) (mul (set .n) (naturals (aOf set seedA i)) (signedBytes s) k)
-    product k l =
-        mul-same (set .q) (set .n) _ _ _ _ k l (λ j m. same-refl (set .q) (naturals (aOf set seedA i) j))
-        (λ j m. residues-at (set .q) (set .n) (signedBytes s) j (q-some good) m)
+    (λ k l. residue-eq (set .q) _ _ (q-some good)
+    (same-add (mul-residues (set .q) (set .n) (naturals (aOf set seedA i)) (signedBytes s) k (q-some good) l)
+    (same-refl (set .q) (signedBytes (eOf set e i) k))))

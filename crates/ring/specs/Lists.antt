@@ -5,11 +5,11 @@ use mathlib.Core.Path.{_≡_}
 use Prim.Native.Nat.{ℕ, _<_}
 use lib.ListN.{length, getD}
 use lib.IntN.{ℤ, pos}
-use Rattle.whole.specs.Residue.{residue, residue-lt, residue-same, Same, same-sym}
+use Rattle.whole.specs.Residue.{residue, residue-lt, residue-same, Same, same-refl, same-sym}
 use Rattle.whole.specs.Table.{table, length-table, getD-table}
 use Rattle.whole.specs.Below.{Below, below-table}
 use Rattle.whole.specs.Twos.{signed}
-use Rattle.ring.specs.Product.{Poly}
+use Rattle.ring.specs.Product.{Poly, mul, mul-same}
 
 -- coefficients that are no less than 0, as residues are
 abbrev pub naturals : List ℕ → Poly
@@ -36,3 +36,8 @@ residues-below q n f h = below-table q n (λ k. residue q (f k)) (λ k l. residu
 -- a residue in place of a coefficient is congruent to it
 pub residues-at : (q n : ℕ) (f : Poly) (k : ℕ) → 0 < q → k < n → Same q (naturals (residues q n f) k) (f k)
 residues-at q n f k h l = rw (getD-table n k (λ j. residue q (f j)) 0 l) (same-sym (residue-same q (f k) h))
+
+-- a product by residues is congruent to the product
+pub mul-residues : (q n : ℕ) (f g : Poly) (k : ℕ) → 0 < q → k < n → Same q (mul n f (naturals (residues q n g)) k) (mul n f g k)
+mul-residues q n f g k h l =
+    mul-same q n f f (naturals (residues q n g)) g k l (λ j m. same-refl q (f j)) (λ j m. residues-at q n g j h m)
