@@ -13,7 +13,7 @@ use native.Mathlib.Numerals.{add-one}
 use native.Mathlib.Omega.{arith}
 use lib.IntN.{ℤ, pos}
 use lib.ListN.{length, take}
-use Rattle.whole.specs.Below.{Below, below-take}
+use Rattle.whole.specs.Below.{Below}
 use Rattle.whole.specs.Refusal.{every}
 use Rattle.whole.specs.RefusalLaws.{every-map, every-append}
 use Rattle.whole.specs.Table.{joined}
@@ -31,7 +31,8 @@ use Rattle.sets.specs.GoodLaws.{q-some}
 use Rattle.sampling.specs.Streams.{allA}
 use Rattle.sampling.specs.declared.drawn.DrawA.{DrawA}
 use Rattle.sampling.specs.DrawA.{valuesLeft, AfterA}
-use Rattle.sampling.specs.DrawALaws.{left-below, at-first, at-asks, at-next}
+use Rattle.sampling.specs.DrawALaws.{at-first, at-asks, at-next}
+use Rattle.sampling.specs.Residues.{after-residues}
 use Rattle.records.specs.Layout.{polynomial}
 use Rattle.records.specs.Public.{tOf, allT, tInRange}
 use Rattle.records.specs.PublicLaws.{tOf-length, allT-polynomial, polynomial-below, tInRange-below}
@@ -56,11 +57,7 @@ module _ {set : Numbers} {d : DrawA} {t zr ps : List ℕ} {ss : List ℤ} {a w t
     w-asks =
         record {
           good = asked .good;
-          a-is =
-              record {
-                long = a-kept ∙ asked .places .a-long;
-                below = rw (drawn .written) (below-take (set .q) (set .n) (valuesLeft set d) (left-below set (asked .good) d));
-              };
+          a-is = after-residues (asked .good) drawn (a-kept ∙ asked .places .a-long);
           t-is = asked .t-is;
           z-is = asked .z-is;
           c-is = asked .c-is;

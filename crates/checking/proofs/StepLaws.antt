@@ -3,7 +3,6 @@
 use mathlib.Core.Path.{_≡_, sym, ap, _∙_}
 use mathlib.Core.List.{List}
 use Prim.Native.Nat.{ℕ, _<_}
-use native.Mathlib.Omega.{arith}
 use lib.IntN.{ℤ, _-ℤ_}
 use lib.ListN.{length}
 use Rattle.whole.specs.Residue.{Same, same-minus, residue-eq}
@@ -14,20 +13,13 @@ use Rattle.ring.specs.Sparse.{sparse}
 use Rattle.ring.specs.Asks.{Factors, SparseProduct, TwoResidues}
 use Rattle.sets.specs.declared.Numbers.{Numbers}
 use Rattle.sets.specs.GoodLaws.{q-some}
+use Rattle.sampling.specs.Residues.{residues-factors}
 use Rattle.checking.specs.Asks.{ForW}
 use Rattle.checking.specs.Steps.{wFrom}
 
 module _ {set : Numbers} {a t zr ps : List ℕ} {ss : List ℤ} {w tc : List ℕ} (asked : ForW set a t zr ps ss w tc) where
   pub product-asks : Factors (set .q) a zr w
-  product-asks =
-      record {
-        small = omega (arith, asked .good .q-small);
-        some = q-some (asked .good);
-        a-long = asked .a-is .long ∙ sym (asked .w-long);
-        b-long = asked .z-is .long ∙ sym (asked .w-long);
-        a-below = asked .a-is .below;
-        b-below = asked .z-is .below;
-      }
+  product-asks = residues-factors (asked .good) (asked .a-is) (asked .z-is) (asked .w-long)
 
   pub sparse-asks : SparseProduct (set .q) t ps ss tc
   sparse-asks =

@@ -23,7 +23,7 @@ use Rattle.shake.specs.Sponge.{absorbed, squeezed}
 use Rattle.rounding.specs.Tests.{fitsByte, zPasses}
 use Rattle.ring.specs.Asks.{Small}
 use Rattle.ring.specs.Product.{mul}
-use Rattle.ring.specs.Lists.{naturals, integers, residues, length-residues, residues-below, mul-residues}
+use Rattle.ring.specs.Lists.{naturals, integers, residues, mul-residues}
 use Rattle.sets.specs.declared.Numbers.{Numbers}
 use Rattle.sets.specs.Good.{Good}
 use Rattle.sets.specs.GoodLaws.{q-some}
@@ -32,6 +32,7 @@ use Rattle.sampling.specs.Streams.{aOf, encOf, challenge, messageDigest, keyDig
 use Rattle.sampling.specs.StreamsLaws.{shake-below, encOf-length, encOf-signed}
 use Rattle.sampling.specs.SpongeLaws.{challenge-squeezed}
 use Rattle.sampling.specs.DrawnAsks.{AreDrawn}
+use Rattle.sampling.specs.Residues.{made-residues}
 use Rattle.records.specs.Layout.{seedBytes, tBytes, zBytes, publicBytes, signatureBytes}
 use Rattle.records.specs.Public.{tOf, seedAOf}
 use Rattle.records.specs.Signature.{zOf, challengeOf, zInRange}
@@ -174,11 +175,7 @@ module _ {set : Numbers} {public signature : List ℕ} {z : List ℤ} {zr t a w 
         good = asked .scratch .room .signs .good;
         public-long = asked .tested .public-long;
         t-inside = asked .tested .t-inside;
-        z-is =
-            record {
-              long = ap length e ∙ length-residues (set .q) (set .n) _;
-              below = rw e (residues-below (set .q) (set .n) _ (q-some (asked .scratch .room .signs .good)));
-            };
+        z-is = made-residues (asked .scratch .room .signs .good) (integers (zOf set signature)) e;
         t-long = asked .scratch .t-long;
         places = asked .scratch .places;
         places-c = asked .scratch .places-c;

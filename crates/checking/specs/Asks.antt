@@ -7,21 +7,16 @@ use mathlib.Core.Path.{_≡_}
 use Prim.Native.Nat.{ℕ, _^_, _≤_, _<_}
 use lib.IntN.{ℤ}
 use lib.ListN.{length}
-use Rattle.whole.specs.Below.{Below}
 use Rattle.ring.specs.Sparse.{Signed}
 use Rattle.sets.specs.declared.Numbers.{Numbers}
 use Rattle.sets.specs.Good.{Good}
 use Rattle.sampling.specs.declared.drawn.DrawA.{DrawA}
 use Rattle.sampling.specs.DrawA.{ValidA}
+use Rattle.sampling.specs.Residues.{Residues}
 use Rattle.records.specs.Layout.{marked, digestBytes, publicBytes, signatureBytes}
 use Rattle.records.specs.Public.{tInRange, allT}
 use Rattle.records.specs.Signature.{zOf, zInRange}
 use Rattle.records.specs.SignatureParts.{Room}
-
--- one polynomial modulo q
-pub record Residues (set : Numbers) (xs : List ℕ) : Type 0 where
-  pub long : length xs ≡ set .n
-  pub below : Below (set .q) xs
 
 -- c, as positions with signs
 pub record Challenge (set : Numbers) (ps : List ℕ) (ss : List ℤ) : Type 0 where

@@ -8,7 +8,7 @@ use native.Mathlib.Numerals.{add-one}
 use native.Mathlib.Omega.{arith}
 use lib.ListN.{length, take, drop, length-append}
 use lib.Seq.{length-take-le}
-use Rattle.whole.specs.Below.{Below, below-take}
+use Rattle.whole.specs.Below.{Below}
 use Rattle.whole.specs.Parts.{part-length}
 use Rattle.whole.specs.Table.{joined, joined-length}
 use Rattle.whole.specs.Written.{Written, written-kept, written-more, written-length}
@@ -20,8 +20,9 @@ use Rattle.sets.specs.Good.{Good}
 use Rattle.sets.specs.GoodLaws.{q-some}
 use Rattle.sampling.specs.declared.drawn.DrawA.{DrawA}
 use Rattle.sampling.specs.Streams.{allA}
-use Rattle.sampling.specs.DrawALaws.{left-below, AtA, at-first, at-asks, at-next}
-use Rattle.sampling.specs.DrawA.{valuesLeft, StartedA, AfterA, NextA}
+use Rattle.sampling.specs.DrawALaws.{AtA, at-first, at-asks, at-next}
+use Rattle.sampling.specs.DrawA.{StartedA, AfterA, NextA}
+use Rattle.sampling.specs.Residues.{after-residues}
 use Rattle.records.specs.Layout.{polynomial, tBytes}
 use Rattle.records.specs.PublicLaws.{packed-t-length}
 use Rattle.records.specs.PublicPlaces.{PacksT}
@@ -41,10 +42,10 @@ tFrom-below set good a sr e = residues-below (set .q) (set .n) _ (q-some good)
 -- ---- one t
 
 pub t-asks : {set : Numbers} {d d₁ : DrawA} {sr e a t a₁ : List ℕ} → ForNext set d sr e a t → AfterA set d a₁ d₁ → length a₁ ≡ length a → ForT set a₁ sr e t
-t-asks {set} {d} asked drawn kept =
+t-asks asked drawn kept =
     record {
       good = asked .good;
-      a-is = record { long = kept ∙ asked .a-long; below = rw (drawn .written) (below-take (set .q) (set .n) (valuesLeft set d) (left-below set (asked .good) d)) };
+      a-is = after-residues (asked .good) drawn (kept ∙ asked .a-long);
       s-is = asked .s-is;
       e-long = asked .e-long;
       t-long = asked .t-long;

@@ -9,11 +9,11 @@ use Rattle.whole.specs.Table.{joined-ext, joined-part}
 use Rattle.whole.specs.Written.{Written, written-more, written-length, written-front, written-all}
 use Rattle.packing.specs.Digits.{packed}
 use Rattle.ring.specs.Asks.{Bytes}
-use Rattle.ring.specs.Lists.{signedBytes, residues, length-residues, residues-below}
+use Rattle.ring.specs.Lists.{signedBytes, residues}
 use Rattle.sets.specs.declared.Numbers.{Numbers}
 use Rattle.sets.specs.Good.{Good}
-use Rattle.sets.specs.GoodLaws.{q-some}
 use Rattle.sampling.specs.Streams.{allA, aOf, keyDigest}
+use Rattle.sampling.specs.Residues.{made-residues}
 use Rattle.records.specs.Layout.{mark, stretch, digestBytes, tBytes}
 use Rattle.records.specs.Public.{packedT, publicRecord}
 use Rattle.records.specs.PublicLaws.{packedT-length, public-packed}
@@ -66,11 +66,7 @@ module _ {set : Numbers} {s e seedA old sr a t : List ℕ} (asked : ForPublic se
     put-asks =
         record {
           good = asked .writes .good;
-          s-is =
-              record {
-                long = ap length residues-are ∙ length-residues (set .q) (set .n) _;
-                below = rw residues-are (residues-below (set .q) (set .n) _ (q-some (asked .writes .good)));
-              };
+          s-is = made-residues (asked .writes .good) (signedBytes s) residues-are;
           e-long = asked .e-long;
           a-long = asked .places .a-long;
           t-long = asked .places .t-long;

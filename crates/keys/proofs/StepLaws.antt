@@ -3,7 +3,6 @@
 use mathlib.Core.Path.{_≡_, sym, ap, _∙_}
 use mathlib.Core.List.{List}
 use Prim.Native.Nat.{ℕ, _<_}
-use native.Mathlib.Omega.{arith}
 use lib.IntN.{_+ℤ_}
 use lib.ListN.{length}
 use Rattle.whole.specs.Residue.{Same, same-refl, same-add, residue-eq}
@@ -15,6 +14,7 @@ use Rattle.sets.specs.declared.Numbers.{Numbers}
 use Rattle.sets.specs.Good.{Good}
 use Rattle.sets.specs.GoodLaws.{q-some}
 use Rattle.sampling.specs.Streams.{aOf}
+use Rattle.sampling.specs.Residues.{residues-factors}
 use Rattle.records.specs.Secret.{eOf}
 use Rattle.keys.specs.Key.{keyT}
 use Rattle.keys.specs.Asks.{ForT}
@@ -22,15 +22,7 @@ use Rattle.keys.specs.Steps.{tFrom}
 
 module _ {set : Numbers} {a sr e t : List ℕ} (asked : ForT set a sr e t) where
   pub product-asks : Factors (set .q) a sr t
-  product-asks =
-      record {
-        small = omega (arith, asked .good .q-small);
-        some = q-some (asked .good);
-        a-long = asked .a-is .long ∙ sym (asked .t-long);
-        b-long = asked .s-is .long ∙ sym (asked .t-long);
-        a-below = asked .a-is .below;
-        b-below = asked .s-is .below;
-      }
+  product-asks = residues-factors (asked .good) (asked .a-is) (asked .s-is) (asked .t-long)
 
   module _ {t₁ : List ℕ} (product-is : t₁ ≡ residues (set .q) (length t) (mul (length t) (naturals a) (naturals sr))) where
     long : length t₁ ≡ set .n

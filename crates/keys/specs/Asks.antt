@@ -5,18 +5,13 @@ use mathlib.Core.List.{List}
 use mathlib.Core.Path.{_≡_}
 use Prim.Native.Nat.{ℕ, _*_, _≤_}
 use lib.ListN.{length}
-use Rattle.whole.specs.Below.{Below}
 use Rattle.sets.specs.declared.Numbers.{Numbers}
 use Rattle.sets.specs.Good.{Good}
 use Rattle.sampling.specs.declared.drawn.DrawA.{DrawA}
 use Rattle.sampling.specs.DrawA.{ValidA}
+use Rattle.sampling.specs.Residues.{Residues}
 use Rattle.records.specs.Layout.{seedBytes, publicBytes, secretBytes}
 use Rattle.records.specs.Pieces.{Writes}
-
--- one polynomial modulo q
-pub record Residues (set : Numbers) (xs : List ℕ) : Type 0 where
-  pub long : length xs ≡ set .n
-  pub below : Below (set .q) xs
 
 -- what `sum_of` asks: a and s modulo q, one polynomial of signed bytes, and a place for t
 pub record ForT (set : Numbers) (a sr e t : List ℕ) : Type 0 where

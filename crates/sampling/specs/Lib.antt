@@ -16,3 +16,4 @@ pub mod SparseLaws
 pub mod StreamsLaws
 pub mod SpongeLaws
 pub mod DrawALaws
+pub mod Residues
