@@ -1,12 +1,11 @@
 -- The two records of a key as they are written: what each piece asks, and that together they are `publicOf` and `secretOf`.
 -- Assumes nothing.
-use mathlib.Core.Path.{_≡_, refl, sym, ap, _∙_}
-use mathlib.Core.List.{List, _++_, append-assoc}
+use mathlib.Core.Path.{_≡_, sym, ap, _∙_}
+use mathlib.Core.List.{List, _++_}
 use Prim.Native.Nat.{ℕ, _+_, _*_, _-_, _≤_}
 use native.Mathlib.Omega.{arith}
-use lib.ListN.{length, take, drop, length-append}
+use lib.ListN.{length, take, drop}
 use Rattle.whole.specs.Table.{joined-ext, joined-part}
-use Rattle.whole.specs.Written.{Written, written-more, written-length, written-front, written-all}
 use Rattle.packing.specs.Digits.{packed}
 use Rattle.ring.specs.Asks.{Bytes}
 use Rattle.ring.specs.Lists.{signedBytes, residues}
@@ -15,15 +14,17 @@ use Rattle.sets.specs.Good.{Good}
 use Rattle.sampling.specs.Streams.{allA, aOf, keyDigest}
 use Rattle.sampling.specs.Residues.{made-residues}
 use Rattle.records.specs.Layout.{mark, stretch, digestBytes, tBytes}
-use Rattle.records.specs.Public.{packedT, publicRecord}
-use Rattle.records.specs.PublicLaws.{packedT-length, public-packed}
+use Rattle.records.specs.Public.{packedT}
+use Rattle.records.specs.PublicLaws.{public-packed}
+use Rattle.records.specs.PublicPlaces.{PutsPublic}
 use Rattle.records.specs.Pieces.{Marks, CopiesAt}
 use Rattle.records.specs.Secret.{secretRecord}
 use Rattle.records.specs.SecretPlaces.{PutsSecret}
+use Rattle.records.proofs.PublicSteps.{put-is}
 use Rattle.keys.specs.Asks.{ForPut, ForPublic, ForSecret, ForBoth}
 use Rattle.keys.specs.Key.{keyT, allKeyT, publicOf, secretOf}
 use Rattle.keys.specs.Steps.{packedUpto}
-use Rattle.keys.specs.KeyLaws.{keyT-length, allKeyT-length}
+use Rattle.keys.specs.KeyLaws.{keyT-length, allKeyT-length, allKeyT-below}
 use Rattle.keys.proofs.StepLaws.{tFrom-keyT}
 
 -- ---- t_1..t_k
@@ -55,51 +56,43 @@ module _ {set : Numbers} {s e seedA old sr a t : List ℕ} (asked : ForPublic se
   pub mark-asks : Marks set 1 old
   mark-asks = record { fits = omega (arith, asked .writes .digit-fits); room = omega (arith, asked .public-long) }
 
-  module _ {sr₁ marks : List ℕ} (s-is : sr₁ ≡ residues (set .q) (length sr) (signedBytes s)) (marks-are : marks ≡ mark set 1 ++ drop 2 old) where
+  pub seed-asks : {packs : List ℕ} {at : ℕ} → length packs ≡ length old → at ≡ 2 + set .k * tBytes set → CopiesAt seedA packs at
+  seed-asks kept at-is = record { room = omega (arith, at-is, asked .seedA-long, asked .public-long, kept) }
+
+  module _ {sr₁ : List ℕ} (s-is : sr₁ ≡ residues (set .q) (length sr) (signedBytes s)) where
     residues-are : sr₁ ≡ residuesOf set s
     residues-are = s-is ∙ ap (λ (n : ℕ). residues (set .q) n (signedBytes s)) (asked .places .s-long)
 
-    marked : Written (mark set 1) old marks
-    marked = written-front 2 refl (omega (arith, asked .public-long)) marks-are
-
-    pub put-asks : ForPut set sr₁ e a t marks
-    put-asks =
+    pub put-asks : {marks : List ℕ} → length marks ≡ length old → ForPut set sr₁ e a t marks
+    put-asks kept =
         record {
           good = asked .writes .good;
           s-is = made-residues (asked .writes .good) (signedBytes s) residues-are;
           e-long = asked .e-long;
           a-long = asked .places .a-long;
           t-long = asked .places .t-long;
-          public-long = written-length marked ∙ asked .public-long;
+          public-long = kept ∙ asked .public-long;
         }
 
-    module _ {packs : List ℕ} (packs-are : packs ≡ take 2 marks ++ (packedUpto set (allA set seedA) sr₁ e (set .k) ++ drop (2 + set .k * tBytes set) marks)) where
-      packed-long : length (packedT set (allKeyT set s e seedA)) ≡ set .k * tBytes set
-      packed-long = packedT-length set (allKeyT set s e seedA) (allKeyT-length set s e seedA)
+    pub public-is : {marks packs new : List ℕ} {at : ℕ} → marks ≡ mark set 1 ++ drop 2 old
+        → packs ≡ take 2 marks ++ (packedUpto set (allA set seedA) sr₁ e (set .k) ++ drop (2 + set .k * tBytes set) marks)
+        → at ≡ 2 + set .k * tBytes set → new ≡ take at packs ++ (seedA ++ drop (at + length seedA) packs) → new ≡ publicOf set s e seedA
+    unfolding publicOf
+    public-is {marks} marks-are packs-are at-is copied =
+        put-is puts marks-are (packs-are ∙ ap (λ (l : List ℕ). take 2 marks ++ (l ++ drop (2 + set .k * tBytes set) marks)) packed-are) at-is copied
+      where
+        puts : PutsPublic set (allKeyT set s e seedA) seedA old
+        puts =
+            record {
+              writes = asked .writes;
+              polynomials = allKeyT-length set s e seedA;
+              below = allKeyT-below set s e seedA (asked .writes .good);
+              seed = asked .seedA-long;
+              long = asked .public-long;
+            }
 
-      packed-are : packs ≡ take 2 marks ++ (packedT set (allKeyT set s e seedA) ++ drop (2 + set .k * tBytes set) marks)
-      packed-are =
-          packs-are
-          ∙ ap (λ (l : List ℕ). take 2 marks ++ (l ++ drop (2 + set .k * tBytes set) marks))
-          (ap (λ (x : List ℕ). packedUpto set (allA set seedA) x e (set .k)) residues-are ∙ packed-key set (asked .writes .good) s e seedA)
-
-      second : Written (mark set 1 ++ packedT set (allKeyT set s e seedA)) old packs
-      second = written-more marked 2 (set .k * tBytes set) (packedT set (allKeyT set s e seedA)) refl packed-long (omega (arith, asked .public-long)) packed-are
-
-      module _ {at : ℕ} (at-is : at ≡ 2 + set .k * tBytes set) where
-        pub seed-asks : CopiesAt seedA packs at
-        seed-asks = record { room = omega (arith, at-is, asked .seedA-long, asked .public-long, written-length second) }
-
-        pub public-is : {new : List ℕ} → new ≡ take at packs ++ (seedA ++ drop (at + length seedA) packs) → new ≡ publicOf set s e seedA
-        unfolding publicOf publicRecord
-        public-is copied =
-            written-all
-            (written-more second at (length seedA) seedA (at-is ∙ sym long) refl (omega (arith, asked .public-long, asked .seedA-long)) copied)
-            (length-append (mark set 1 ++ packedT set (allKeyT set s e seedA)) seedA ∙ omega (arith, long, asked .public-long, asked .seedA-long))
-            ∙ append-assoc (mark set 1) (packedT set (allKeyT set s e seedA)) seedA
-          where
-            long : length (mark set 1 ++ packedT set (allKeyT set s e seedA)) ≡ 2 + set .k * tBytes set
-            long = length-append (mark set 1) (packedT set (allKeyT set s e seedA)) ∙ ap (λ (n : ℕ). 2 + n) packed-long
+        packed-are : packedUpto set (allA set seedA) sr₁ e (set .k) ≡ packedT set (allKeyT set s e seedA)
+        packed-are = ap (λ (x : List ℕ). packedUpto set (allA set seedA) x e (set .k)) residues-are ∙ packed-key set (asked .writes .good) s e seedA
 
 -- ---- the secret record
 

@@ -18,7 +18,7 @@ put-t-requires : tie.Need-put-t-requires
 put-t-requires c κs =
     let marks = c .before .before .before .before .before .before in
     let residues = marks .before .before .before .before in
-    put-asks (residues .before .before .before .before .before .before .before .before .before .pre) (residues .residues-of-bytes .ensures) (marks .write-mark .ensures)
+    put-asks (residues .before .before .before .before .before .before .before .before .before .pre) (residues .residues-of-bytes .ensures) (marks .write-mark .kept .1 .1 .0)
 
 seed-start-requires : tie.Need-seed-start-requires
 seed-start-requires c κs =
@@ -29,8 +29,8 @@ copy-at-requires : tie.Need-copy-at-requires
 copy-at-requires c κs =
     let packs = c .before .before .before .before .before .before .before .before in
     let marks = packs .before .before .before .before .before .before .before in
-    let residues = marks .before .before .before .before in
-    seed-asks (residues .before .before .before .before .before .before .before .before .before .pre) (residues .residues-of-bytes .ensures) (marks .write-mark .ensures) (packs .put-t .ensures) (c .seed-start .ensures)
+    let start = marks .before .before .before .before .before .before .before .before .before .before .before .before .before in
+    seed-asks (start .pre) (packs .put-t .kept .1 .1 .1 .1 .1 .1 .0 ∙ marks .write-mark .kept .1 .1 .0) (c .seed-start .ensures)
 
 same-length : tie.Need-same-length
 same-length c =
