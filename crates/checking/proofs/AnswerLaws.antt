@@ -12,8 +12,8 @@ use lib.Dec.{eqb, lit<}
 use lib.IntN.{ℤ}
 use lib.ListN.{length}
 use borrow.Author.Tests.{eqb-true, le-leb, lt-leb}
-use Rattle.whole.specs.Refusal.{answer, sameBytes}
-use Rattle.whole.specs.RefusalLaws.{both-first, both-second, same-first, same-rest, answer-pass, answer-fail, answer-none, answer-first, answer-rest, answer-before}
+use Rattle.whole.specs.Refusal.{answer, sameBytes, every}
+use Rattle.whole.specs.RefusalLaws.{both-first, both-second, same-first, same-rest, answer-pass, answer-fail, answer-none, answer-first, answer-rest, answer-before, answer-past}
 use Rattle.sets.specs.declared.Numbers.{Numbers}
 use Rattle.sets.specs.SetI.{setI, setI-good}
 use Rattle.sets.specs.Limits.{messageLimit}
@@ -117,13 +117,8 @@ module _ (set : Numbers) (public message signature : List ℕ) where
   module _ (passed : answer (inputTests set public (length message) signature) ≡ 0) where
     -- else the answer is the work's
     pub check-goes-on : answer (checkTests set public message signature) ≡ answer (workTests set public message signature)
-    unfolding inputTests checkTests workTests hashTests
-    check-goes-on =
-        answer-pass 1 _ (answer-first _ 0 _ passed)
-        ∙ answer-pass 2 _ (answer-first _ 1 _ (answer-rest _ 0 _ passed))
-        ∙ answer-pass 3 _ (answer-first _ 2 _ (answer-rest _ 1 _ (answer-rest _ 0 _ passed)))
-        ∙ answer-pass 5 _ (answer-first _ 4 _ (answer-rest _ 2 _ (answer-rest _ 1 _ (answer-rest _ 0 _ passed))))
-        ∙ answer-pass 9 _ (answer-first _ 8 _ (answer-rest _ 4 _ (answer-rest _ 2 _ (answer-rest _ 1 _ (answer-rest _ 0 _ passed)))))
+    unfolding inputTests checkTests workTests hashTests every
+    check-goes-on = answer-past (inputTests set public (length message) signature) (workTests set public message signature) refl passed
 
     pub inputs-tested : Tested set public signature
     unfolding inputTests

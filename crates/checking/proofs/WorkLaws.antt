@@ -7,18 +7,18 @@
 -- Assumes nothing.
 use mathlib.Core.Path.{_≡_, refl, sym, ap, ap₂, _∙_}
 use mathlib.Core.Bool.{true}
-use mathlib.Core.List.{List, [], _∷_, map}
+use mathlib.Core.List.{List, map}
 use Prim.Native.Nat.{ℕ, _+_, _*_, _-_}
 use native.Mathlib.Omega.{arith}
 use borrow.Author.Tests.{leb-true}
 use lib.IntN.{ℤ, pos, natAbs}
 use lib.ListN.{length, getD, take, drop, length-map}
-use Rattle.whole.specs.Below.{Below, below-cons, Within}
-use Rattle.whole.specs.Residue.{residue-lt, residue-eq, same-refl, same-minus}
+use Rattle.whole.specs.Below.{Below, Within}
+use Rattle.whole.specs.Residue.{residue-eq, same-refl, same-minus}
 use Rattle.whole.specs.Refusal.{answer, every}
 use Rattle.whole.specs.RefusalLaws.{every-at}
 use Rattle.whole.specs.Table.{joined-ext, table-ext}
-use Rattle.whole.specs.Twos.{twos}
+use Rattle.whole.specs.Twos.{twos, twos-all-below}
 use Rattle.shake.specs.Sponge.{absorbed, squeezed}
 use Rattle.rounding.specs.Tests.{fitsByte, zPasses}
 use Rattle.ring.specs.Asks.{Small}
@@ -28,7 +28,7 @@ use Rattle.sets.specs.declared.Numbers.{Numbers}
 use Rattle.sets.specs.Good.{Good}
 use Rattle.sets.specs.GoodLaws.{q-some}
 use Rattle.sampling.specs.Positions.{Drawn, positionsOf, signsOf, polynomialOf}
-use Rattle.sampling.specs.Streams.{aOf, encOf, challenge, messageDigest, keyDigest}
+use Rattle.sampling.specs.Streams.{aOf, encOf, challenge, messageDigest, keyDigest, highsOf}
 use Rattle.sampling.specs.StreamsLaws.{shake-below, encOf-length, encOf-signed}
 use Rattle.sampling.specs.SpongeLaws.{challenge-squeezed}
 use Rattle.sampling.specs.DrawnAsks.{AreDrawn}
@@ -37,7 +37,6 @@ use Rattle.records.specs.Layout.{seedBytes, tBytes, zBytes, publicBytes, signat
 use Rattle.records.specs.Public.{tOf, seedAOf}
 use Rattle.records.specs.Signature.{zOf, challengeOf, zInRange}
 use Rattle.records.specs.SignatureLaws.{zOf-length}
-use Rattle.signing.specs.Attempt.{highsOf}
 use Rattle.checking.specs.declared.hash.Highs.{Highs}
 use Rattle.checking.specs.Check.{checkW, checkHighs, publicG}
 use Rattle.checking.specs.Asks.{ForEachT, ForResidues, ForHighs, ForTested}
@@ -115,10 +114,6 @@ highs-are public c′ e drawn reached = rw (← e, ← drawn .places-are, ← dr
 
 -- ---- H
 
-bytes-below : (highs : List ℤ) → Below 256 (map (twos 8) highs)
-bytes-below [] = record { at = λ i l. absurd (omega arith) }
-bytes-below (x ∷ xs) = below-cons (residue-lt 256 x (omega arith)) (bytes-below xs)
-
 digest-below : (set : Numbers) (message : List ℕ) → Below 256 (messageDigest set message)
 unfolding messageDigest
 digest-below set message = shake-below _ 40
@@ -136,7 +131,7 @@ tests-are {set} public message zr c′ r good reached d e =
     ap₂ (λ fits found. answer (hashTests fits found c′)) (reached .fits-is)
     (rw (reached .state-is, d, e)
     (challenge-squeezed set good (hashHighs set public zr c′) (map (twos 8) (hashHighs set public zr c′)) (messageDigest set message) (publicG set public) refl
-    (bytes-below (hashHighs set public zr c′)) (digest-below set message) (publicG-below set public)))
+    (twos-all-below 8 (hashHighs set public zr c′)) (digest-below set message) (publicG-below set public)))
 
 -- ---- over the signature record
 

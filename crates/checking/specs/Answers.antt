@@ -1,9 +1,10 @@
 -- The number that document 01 gives for each answer of checking, and that no two answers share one.
 -- Assumes nothing.
-use mathlib.Core.Path.{_≡_, refl, sym, ap, _∙_}
+use mathlib.Core.Path.{_≡_, refl}
 use mathlib.Core.Bool.{cond}
 use Prim.Native.Nat.{ℕ}
 use lib.Dec.{eqb}
+use Rattle.whole.specs.Determined.{one-to-one}
 use Rattle.checking.specs.declared.CheckAnswer.{CheckAnswer}
 use Rattle.checking.specs.declared.CheckAnswer.the-variants.{Accepted, Length, Mark, Message, Coefficient, Z, High, Hash}
 
@@ -40,4 +41,4 @@ answer-back Hash = refl
 
 -- an answer has its number to itself
 pub answer-one : (x y : CheckAnswer) → checkAnswerNumber x ≡ checkAnswerNumber y → x ≡ y
-answer-one x y e = sym (answer-back x) ∙ ap answerWith e ∙ answer-back y
+answer-one = one-to-one answerWith answer-back

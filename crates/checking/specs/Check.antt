@@ -11,13 +11,12 @@ use Rattle.ring.specs.Product.{mul}
 use Rattle.ring.specs.Lists.{naturals, integers, residues}
 use Rattle.sets.specs.declared.Numbers.{Numbers}
 use Rattle.sets.specs.Limits.{messageLimit}
-use Rattle.sampling.specs.Streams.{aOf, encOf, challenge, messageDigest, keyDigest}
+use Rattle.sampling.specs.Streams.{aOf, encOf, challenge, messageDigest, keyDigest, highsOf}
 use Rattle.records.specs.Layout.{marked, stretch, tBytes, publicBytes, signatureBytes}
 use Rattle.records.specs.Public.{tOf, allT, seedAOf, tInRange}
 use Rattle.records.specs.Signature.{zOf, challengeOf, zInRange}
 use Rattle.sampling.specs.Positions.{polynomialOf}
 use Rattle.rounding.specs.Tests.{fitsByte}
-use Rattle.signing.specs.Attempt.{highsOf}
 
 -- w_(i + 1) = a_(i + 1) z − t_(i + 1) c, from 0 to q − 1
 unfoldable pub checkW : Numbers → List ℕ → (ℕ → List ℕ) → List ℤ → List ℕ → ℕ → List ℕ

@@ -28,7 +28,7 @@ use Rattle.sets.specs.declared.Numbers.{Numbers}
 use Rattle.sets.specs.Good.{Good}
 use Rattle.sets.specs.Limits.{messageLimit}
 use Rattle.sets.specs.SetI.{setI, setI-good}
-use Rattle.sampling.specs.Streams.{messageDigest, keyDigest, randOf, yOf, challenge, encOf}
+use Rattle.sampling.specs.Streams.{messageDigest, keyDigest, randOf, yOf, challenge, encOf, highsOf}
 use Rattle.sampling.specs.StreamsLaws.{shake-length}
 use Rattle.records.specs.Layout.{seedBytes}
 use Rattle.records.specs.Public.{packedT}
@@ -37,7 +37,7 @@ use Rattle.records.specs.SecretPlaces.{SecretLengths}
 use Rattle.records.specs.SecretLaws.{secret-s, secret-e, secret-seedA, secret-g}
 use Rattle.records.specs.Signature.{signatureRecord}
 use Rattle.keys.specs.Key.{allKeyT, publicOf, secretOf, eachEPasses, makeKeyTests}
-use Rattle.signing.specs.Attempt.{Key, Outcome, passes, fails, overflows, attempt, tried, answered, attemptPasses, highsOf, vOf, zFrom}
+use Rattle.signing.specs.Attempt.{Key, Outcome, passes, fails, overflows, attempt, tried, answered, attemptPasses, vOf, zFrom}
 use Rattle.signing.specs.Search.{Found, found, none, overflow}
 use Rattle.signing.specs.SearchLaws.{Stopped, found-smallest, none-fails, fails-none, overflow-somewhere}
 use Rattle.signing.specs.Sign.{keyOf, signTests, signSearch, signNumber, signSignature, signCounter}

@@ -26,7 +26,7 @@ use Rattle.sets.specs.Limits.{messageLimit}
 use Rattle.sets.specs.GoodLaws.{q-some}
 use Rattle.sampling.specs.Positions.{polynomialOf}
 use Rattle.sampling.specs.StreamsLaws.{shake-length, encOf-small, encOf-total}
-use Rattle.sampling.specs.Streams.{aOf, yOf, encOf, challenge, messageDigest, keyDigest}
+use Rattle.sampling.specs.Streams.{aOf, yOf, encOf, challenge, messageDigest, keyDigest, highsOf}
 use Rattle.records.specs.Layout.{marked, seedBytes, publicBytes}
 use Rattle.records.specs.Public.{packedT, tOf, allT, seedAOf}
 use Rattle.records.specs.Secret.{eOf}
@@ -35,7 +35,7 @@ use Rattle.records.specs.PublicLaws.{polynomial-length, below-tInRange, publicR
 use Rattle.records.specs.SignatureLaws.{signatureRecord-length, signature-marked, signature-challenge, signature-z}
 use Rattle.keys.specs.Key.{keyT, allKeyT, publicOf, eachEPasses}
 use Rattle.keys.specs.KeyLaws.{keyT-length, allKeyT-length, allKeyT-below}
-use Rattle.signing.specs.Attempt.{Key, passes, highsOf, vOf, zFrom, wOf, wPasses, attempt}
+use Rattle.signing.specs.Attempt.{Key, passes, vOf, zFrom, wOf, wPasses, attempt}
 use Rattle.signing.specs.AttemptLaws.{vOf-length, wOf-length, zFrom-length, Passing, passing, attempt-z, attempt-w}
 use Rattle.checking.specs.Check.{checkW, checkHighs, publicG, checkTests}
 use Rattle.demands.specs.Alike.{same-w, alike}

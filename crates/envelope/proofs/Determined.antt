@@ -1,12 +1,12 @@
 -- The contracts of this crate's public functions determine their results and what each output holds at exit; of a part of the lent
 -- envelope, the bytes.
 -- Assumes nothing.
-use mathlib.Core.Path.{_≡_, refl, sym, ap, _∙_}
+use mathlib.Core.Path.{_≡_, refl, sym, _∙_}
 use mathlib.Core.Bool.{cond}
 use Prim.Native.Nat.{ℕ}
 use lib.Dec.{eqb}
 use denote.Ref.{now}
-use Rattle.whole.specs.Determined.{Result, Output, Held}
+use Rattle.whole.specs.Determined.{Result, Output, Held, one-to-one}
 use Rattle.envelope.specs.declared.WriteEnvelope.{WriteEnvelope}
 use Rattle.envelope.specs.declared.WriteEnvelope.the-variants.{Done, Length, Mark, Message, Z}
 use Rattle.envelope.specs.declared.ReadEnvelope.{ReadEnvelope}
@@ -53,7 +53,7 @@ write-back Message = refl
 write-back Z = refl
 
 pub write-determined : Result 3 write-kinds.ps write-kinds.r write.Learnt
-write-determined κs a x y e f p q = sym (write-back x) ∙ ap writeWith (p .0 ∙ sym (q .0)) ∙ write-back y
+write-determined κs a x y e f p q = one-to-one writeWith write-back x y (p .0 ∙ sym (q .0))
 
 pub write-envelope : Output 3 write-kinds.ps write-kinds.r write.Learnt (λ κs e. now (e .1 .1 .1 .0))
 write-envelope κs a x y e f p q = p .1 ∙ sym (q .1)

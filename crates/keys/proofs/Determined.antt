@@ -1,12 +1,12 @@
 -- The contracts of this crate's public functions determine their results and what each output holds at exit. Lent scratch is no output:
 -- of what the tests leave there nothing is promised.
 -- Assumes nothing.
-use mathlib.Core.Path.{_≡_, refl, sym, ap, _∙_}
+use mathlib.Core.Path.{_≡_, refl, sym, _∙_}
 use mathlib.Core.Bool.{cond}
 use Prim.Native.Nat.{ℕ}
 use lib.Dec.{eqb}
 use denote.Ref.{now}
-use Rattle.whole.specs.Determined.{Result, Output}
+use Rattle.whole.specs.Determined.{Result, Output, one-to-one}
 use Rattle.keys.specs.declared.KeyAnswer.{KeyAnswer}
 use Rattle.keys.specs.declared.KeyAnswer.the-variants.{Done, Length, Secret, SumS, SumE}
 use Rattle.keys.specs.Answers.{keyAnswerNumber}
@@ -32,7 +32,7 @@ answer-back SumE = refl
 
 -- an answer has its number to itself
 number-determines : (x y : KeyAnswer) → keyAnswerNumber x ≡ keyAnswerNumber y → x ≡ y
-number-determines x y e = sym (answer-back x) ∙ ap answerWith e ∙ answer-back y
+number-determines = one-to-one answerWith answer-back
 
 pub make-key-determined : Result 6 make-key-kinds.ps make-key-kinds.r make-key.Learnt
 make-key-determined κs a x y e f p q = number-determines x y (p .0 ∙ sym (q .0))

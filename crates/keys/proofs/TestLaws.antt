@@ -1,14 +1,13 @@
 -- checkE of e_1..e_k, each on its own part of e.
 -- Assumes nothing.
-use mathlib.Core.Path.{_≡_, subst}
+use mathlib.Core.Path.{_≡_}
 use mathlib.Core.Bool.{Bool, true, false}
 use mathlib.Core.List.{List}
 use Prim.Native.Nat.{ℕ, _+_, _*_, _-_, _≤_, _<_}
 use native.Mathlib.Omega.{arith}
-use native.Mathlib.Nat.{le-antisymm}
 use lib.ListN.{length, take, drop}
 use Rattle.whole.specs.Refusal.{eachBelow}
-use Rattle.whole.specs.RefusalLaws.{eachBelow-fails}
+use Rattle.whole.specs.RefusalLaws.{eachBelow-fails, eachBelow-end}
 use Rattle.whole.specs.Rows.{row-fits}
 use Rattle.ring.specs.Largest.{sumPasses, Few}
 use Rattle.sets.specs.declared.Numbers.{Numbers}
@@ -37,7 +36,7 @@ module _ {set : Numbers} {e slots : List ℕ} (asked : ForE set e slots) where
 
   pub each-passes : {i : ℕ} → i ≤ set .k → set .k ≤ i → eachBelow i (passesE set e) ≡ true → eachEPasses set e ≡ true
   unfolding eachEPasses
-  each-passes {i} l m f = subst (λ (j : ℕ). eachBelow j (passesE set e) ≡ true) (le-antisymm l m) f
+  each-passes l m f = eachBelow-end (passesE set e) l m f
 
   pub each-refuses : (i : ℕ) → i < set .k → passesE set e i ≡ false → eachEPasses set e ≡ false
   unfolding eachEPasses

@@ -2,7 +2,7 @@
 -- an answer is determined by its number.
 -- Assumes nothing.
 use mathlib.Core.Path.{_≡_, refl, sym, ap, _∙_}
-use mathlib.Core.Bool.{Bool, true, false}
+use mathlib.Core.Bool.{Bool, true, false, cond}
 use mathlib.Core.List.{List, [], _∷_}
 use mathlib.Core.Logic.{⊎-elim}
 use Prim.Native.Nat.{ℕ}
@@ -13,6 +13,7 @@ use types.Run.{OneOf}
 use denote.Enum.Declared.{tagOf}
 use Rattle.whole.specs.Refusal.{Test, _orElse_, answer, after}
 use Rattle.whole.specs.RefusalLaws.{answer-pass, answer-fail, answer-none}
+use Rattle.whole.specs.Determined.{one-to-one}
 use Rattle.records.specs.declared.KeyRecord.{KeyRecord}
 use Rattle.records.specs.declared.KeyRecord.the-variants.{Done, Length, Mark, Value}
 use Rattle.records.specs.Answers.{keyRecordNumber}
@@ -71,20 +72,15 @@ module _ (v : Bool) {all x : Bool} (e : x ≡ all) where
 
 -- ---- the number determines the answer
 
+-- the answer with this number
+abbrev answerWith : ℕ → KeyRecord
+answerWith n = cond (eqb n 0) Done (cond (eqb n 1) Length (cond (eqb n 2) Mark Value))
+
+answer-back : (r : KeyRecord) → answerWith (keyRecordNumber r) ≡ r
+answer-back Done = refl
+answer-back Length = refl
+answer-back Mark = refl
+answer-back Value = refl
+
 pub number-determines : (r u : KeyRecord) → keyRecordNumber r ≡ keyRecordNumber u → r ≡ u
-number-determines Done Done e = refl
-number-determines Done Length e = absurd (omega arith)
-number-determines Done Mark e = absurd (omega arith)
-number-determines Done Value e = absurd (omega arith)
-number-determines Length Done e = absurd (omega arith)
-number-determines Length Length e = refl
-number-determines Length Mark e = absurd (omega arith)
-number-determines Length Value e = absurd (omega arith)
-number-determines Mark Done e = absurd (omega arith)
-number-determines Mark Length e = absurd (omega arith)
-number-determines Mark Mark e = refl
-number-determines Mark Value e = absurd (omega arith)
-number-determines Value Done e = absurd (omega arith)
-number-determines Value Length e = absurd (omega arith)
-number-determines Value Mark e = absurd (omega arith)
-number-determines Value Value e = refl
+number-determines = one-to-one answerWith answer-back

@@ -10,7 +10,7 @@ use lib.ListN.{length, getD, take, drop, length-drop, length-append}
 use borrow.Author.Tests.{lt-ltb, le-ltb, eqb-true}
 use Rattle.whole.specs.Below.{below-more}
 use Rattle.whole.specs.Parts.{part-length}
-use Rattle.whole.specs.RefusalLaws.{Passing, passing-more, passing-fails, passing-all, every-joined, eachBelow-none, eachBelow-more, eachBelow-fails, both-first, answer-first, same-first, same-rest}
+use Rattle.whole.specs.RefusalLaws.{Passing, passing-more, passing-fails, passing-all, every-joined, eachBelow-none, eachBelow-more, eachBelow-fails, both-first, answer-first, same-first, same-rest, eachBelow-end}
 use Rattle.whole.specs.Written.{lent-rest, put-rest, Written, written-none, written-kept, written-length, written-more, written-all, put-part, written-front}
 use Rattle.packing.specs.Digits.{bytesFor, packed, unpacked, Packs, Unpacks}
 use Rattle.sets.specs.declared.Numbers.{Numbers}
@@ -129,9 +129,7 @@ module _ {s : Numbers} {public scratch : List ℕ} {i : ℕ} (p : Ranging s publ
       sym (each-range s public ∙ eachBelow-fails (s .k) i (λ j. tInRange s (tOf s public j)) l (sym f ∙ g))
 
   pub ranging-all : s .k ≤ i → true ≡ tInRange s (allT s public)
-  ranging-all l =
-      let e : s .k ≡ i = le-antisymm l (p .near) in
-      sym (each-range s public ∙ ap (λ (j : ℕ). eachBelow j (λ j. tInRange s (tOf s public j))) e ∙ p .passed)
+  ranging-all l = sym (each-range s public ∙ eachBelow-end _ (p .near) l (p .passed))
 
 -- ---- t_1..t_k are read
 

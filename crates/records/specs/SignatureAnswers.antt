@@ -1,8 +1,10 @@
 -- The number that document 01 gives for each answer of reading or writing a signature record, and that no two answers share one.
 -- Assumes nothing.
 use mathlib.Core.Path.{_≡_, refl}
+use mathlib.Core.Bool.{cond}
 use Prim.Native.Nat.{ℕ}
-use native.Mathlib.Omega.{arith}
+use lib.Dec.{eqb}
+use Rattle.whole.specs.Determined.{one-to-one}
 use Rattle.records.specs.declared.signature.SignatureRecord.{SignatureRecord}
 use Rattle.records.specs.declared.signature.SignatureRecord.the-variants.{Done, Length, Mark, Value}
 
@@ -12,20 +14,15 @@ signatureRecordNumber Length = 1
 signatureRecordNumber Mark = 2
 signatureRecordNumber Value = 9
 
-pub signatureRecordNumber-one : (a b : SignatureRecord) → signatureRecordNumber a ≡ signatureRecordNumber b → a ≡ b
-signatureRecordNumber-one Done Done e = refl
-signatureRecordNumber-one Length Length e = refl
-signatureRecordNumber-one Mark Mark e = refl
-signatureRecordNumber-one Value Value e = refl
-signatureRecordNumber-one Done Length e = absurd (omega arith)
-signatureRecordNumber-one Done Mark e = absurd (omega arith)
-signatureRecordNumber-one Done Value e = absurd (omega arith)
-signatureRecordNumber-one Length Done e = absurd (omega arith)
-signatureRecordNumber-one Length Mark e = absurd (omega arith)
-signatureRecordNumber-one Length Value e = absurd (omega arith)
-signatureRecordNumber-one Mark Done e = absurd (omega arith)
-signatureRecordNumber-one Mark Length e = absurd (omega arith)
-signatureRecordNumber-one Mark Value e = absurd (omega arith)
-signatureRecordNumber-one Value Done e = absurd (omega arith)
-signatureRecordNumber-one Value Length e = absurd (omega arith)
-signatureRecordNumber-one Value Mark e = absurd (omega arith)
+-- the answer with this number
+abbrev answerWith : ℕ → SignatureRecord
+answerWith n = cond (eqb n 0) Done (cond (eqb n 1) Length (cond (eqb n 2) Mark Value))
+
+answer-back : (r : SignatureRecord) → answerWith (signatureRecordNumber r) ≡ r
+answer-back Done = refl
+answer-back Length = refl
+answer-back Mark = refl
+answer-back Value = refl
+
+pub signatureRecordNumber-one : (x y : SignatureRecord) → signatureRecordNumber x ≡ signatureRecordNumber y → x ≡ y
+signatureRecordNumber-one = one-to-one answerWith answer-back

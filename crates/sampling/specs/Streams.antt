@@ -5,8 +5,10 @@ use mathlib.Core.List.{List, [], _∷_, _++_, map}
 use Prim.Native.Nat.{ℕ, _+_, _*_, _/_, _%_}
 use lib.IntN.{ℤ, pos, _-ℤ_}
 use lib.ListN.{take, drop}
+use Rattle.rounding.specs.Parts.{high}
 use Rattle.shake.specs.Shake256.{shake256}
 use Rattle.whole.specs.Twos.{twos}
+use Rattle.whole.specs.Table.{joined}
 use Rattle.sets.specs.declared.Numbers.{Numbers}
 use Rattle.sets.specs.Marks.{streamMark}
 use Rattle.sampling.specs.Candidates.{candidates}
@@ -57,6 +59,10 @@ messageDigest s message = stream s 4 message 40
 -- g, of the packed t_1..t_k
 unfoldable pub keyDigest : Numbers → List ℕ → List ℕ
 keyDigest s packedT = stream s 5 packedT 40
+
+-- what H takes first: the high parts of the k polynomials v_1..v_k, i then coefficient
+unfoldable pub highsOf : Numbers → (ℕ → List ℕ) → List ℤ
+highsOf set v = joined (set .k) (λ i. map (λ x. high (set .q) (set .d) (pos x)) (v i))
 
 -- H: c' from the high parts, one signed byte each, i then coefficient, G of the message, and g
 unfoldable pub challenge : Numbers → List ℤ → List ℕ → List ℕ → List ℕ

@@ -1,17 +1,15 @@
 -- What follows once c' is known, and the attempt's outcome. Assumes nothing.
 use mathlib.Core.Path.{_≡_, refl, sym, ap, _∙_}
 use mathlib.Core.Bool.{Bool, true, false, cond, _&&_}
-use mathlib.Core.List.{List, [], _∷_, map}
-use Prim.Native.Nat.{ℕ, zero, suc, _^_, _<_}
-use native.Mathlib.Omega.{arith}
+use mathlib.Core.List.{List, map}
+use Prim.Native.Nat.{ℕ, _^_, _<_}
 use lib.IntN.{ℤ}
 use lib.ListN.{length, getD, length-map}
-use Rattle.whole.specs.Residue.{residue-lt}
 use Rattle.whole.specs.Table.{joined}
-use Rattle.whole.specs.Below.{Below}
+use Rattle.whole.specs.Below.{below-bytes}
 use Rattle.whole.specs.Refusal.{every, eachBelow}
 use Rattle.whole.specs.RefusalLaws.{not-first, eachBelow-ext}
-use Rattle.whole.specs.Twos.{twos}
+use Rattle.whole.specs.Twos.{twos, twos-all-below}
 use Rattle.rounding.specs.Tests.{fitsByte}
 use Rattle.ring.specs.Sparse.{sparse}
 use Rattle.shake.specs.declared.Sponge.{Sponge}
@@ -19,13 +17,13 @@ use Rattle.shake.specs.Sponge.{absorbed, squeezed}
 use Rattle.sets.specs.declared.Numbers.{Numbers}
 use Rattle.sets.specs.Marks.{fresh}
 use Rattle.sampling.specs.Positions.{Drawn, polynomialOf}
-use Rattle.sampling.specs.Streams.{yOf, encOf, challenge}
+use Rattle.sampling.specs.Streams.{yOf, encOf, challenge, highsOf}
 use Rattle.sampling.specs.StreamsLaws.{encOf-length, encOf-signed, yOf-length}
 use Rattle.sampling.specs.SpongeLaws.{challenge-squeezed}
 use Rattle.sampling.specs.DrawnAsks.{DrawEnc, AreDrawn}
 use Rattle.records.specs.Layout.{polynomial}
 use Rattle.records.specs.Signature.{zInRange}
-use Rattle.signing.specs.Attempt.{passes, fails, overflows, highsOf, vOf, zFrom, wOf, wPasses, attemptPasses, answered, tried, attempt}
+use Rattle.signing.specs.Attempt.{passes, fails, overflows, vOf, zFrom, wOf, wPasses, attemptPasses, answered, tried, attempt}
 use Rattle.signing.specs.Parts.{zWith, wOne, wWith}
 use Rattle.signing.specs.Answers.{keyWith}
 use Rattle.signing.specs.Asks.{Terms, MakesZ, TestsW, Commits, Responds, Places, Secrets}
@@ -137,15 +135,7 @@ module _ {set : Numbers} {s e : List ℕ} (sec : Secrets set s e) {y₀ : List �
           c-is
           ∙ ap (λ (t : Sponge). squeezed 32 (absorbed (absorbed t digest) g)) state-is
           ∙ challenge-squeezed set (sec .fitting .good) (highsOf set (vOf set seedA (yOf set rand counter))) (map (twos 8) (highsOf set (vOf set seedA (yOf set rand counter)))) digest g refl
-          (twos-below (highsOf set (vOf set seedA (yOf set rand counter)))) (record { at = λ i l. digest-bytes i }) (record { at = λ i l. g-bytes i })
-        where
-          twos-below : (xs : List ℤ) → Below 256 (map (twos 8) xs)
-          twos-below xs = record { at = λ i l. twos-at xs i }
-            where
-              twos-at : (zs : List ℤ) (i : ℕ) → getD (map (twos 8) zs) i 0 < 256
-              twos-at [] i = omega arith
-              twos-at (x ∷ zs) zero = residue-lt 256 x (omega arith)
-              twos-at (x ∷ zs) (suc i) = twos-at zs i
+          (twos-all-below 8 (highsOf set (vOf set seedA (yOf set rand counter)))) (below-bytes digest digest-bytes) (below-bytes g g-bytes)
 
       same-tests : rowPasses set s e y w (encOf set c) ≡ attemptPasses set (keyWith s e seedA g) (yOf set rand counter) (vOf set seedA (yOf set rand counter)) (encOf set c)
       unfolding attemptPasses wOf wOne

@@ -20,9 +20,9 @@ use Rattle.shake.specs.Sponge.{blank, absorbed}
 use Rattle.shake.specs.Pieces.{absorbed-absorbed}
 use Rattle.sets.specs.declared.Numbers.{Numbers}
 use Rattle.sets.specs.Marks.{streamMark, fresh}
+use Rattle.sampling.specs.Streams.{highsOf}
 use Rattle.records.specs.Layout.{polynomial}
 use Rattle.records.specs.PublicLaws.{polynomial-length, polynomial-below}
-use Rattle.signing.specs.Attempt.{highsOf}
 use Rattle.signing.specs.Asks.{Absorbs}
 
 -- the high parts of v_(i + 1)

@@ -7,26 +7,27 @@ use native.Mathlib.Numerals.{add-one}
 use native.Mathlib.Omega.{arith}
 use lib.IntN.{ℤ, pos}
 use lib.ListN.{length, take, drop}
-use Rattle.whole.specs.Residue.{residue, residue-eq, Same, same-refl}
+use Rattle.whole.specs.Residue.{residue-eq}
 use Rattle.whole.specs.Table.{joined, joined-ext, joined-length, joined-part, table-ext}
 use Rattle.whole.specs.Below.{Below, below-joined, Within, within-more}
 use Rattle.whole.specs.Parts.{part-length}
 use Rattle.whole.specs.Rows.{row-fits, row-lent}
 use Rattle.whole.specs.Written.{Written, written-none, written-length, written-more, written-all, put-part}
 use Rattle.rounding.specs.Parts.{high}
-use Rattle.ring.specs.Product.{mul, mul-same}
-use Rattle.ring.specs.Lists.{naturals, integers, residues, length-residues, residues-below, residues-at}
+use Rattle.ring.specs.Product.{mul}
+use Rattle.ring.specs.Lists.{naturals, integers, residues, length-residues, residues-below, mul-residues}
 use Rattle.ring.specs.Asks.{Factors, Small}
 use Rattle.sets.specs.declared.Numbers.{Numbers}
 use Rattle.sets.specs.Good.{Good}
 use Rattle.sets.specs.GoodLaws.{q-some}
 use Rattle.sampling.specs.declared.drawn.DrawA.{DrawA}
 use Rattle.sampling.specs.DrawA.{StartedA, NextA, AfterA}
-use Rattle.sampling.specs.Streams.{aOf, yOf}
-use Rattle.sampling.specs.StreamsLaws.{aOf-length, aOf-below, yOf-length, yOf-size}
+use Rattle.sampling.specs.Streams.{aOf, yOf, highsOf}
+use Rattle.sampling.specs.StreamsLaws.{aOf-length, yOf-length, yOf-size}
 use Rattle.sampling.specs.DrawALaws.{AtA, at-first, at-asks, at-written, at-next}
+use Rattle.sampling.specs.Residues.{after-residues, residues-factors}
 use Rattle.records.specs.Layout.{polynomial}
-use Rattle.signing.specs.Attempt.{highsOf, vOf}
+use Rattle.signing.specs.Attempt.{vOf}
 use Rattle.signing.specs.Parts.{productOf}
 use Rattle.signing.specs.Asks.{Multiplies, Absorbs, Commits}
 use Rattle.signing.specs.AttemptLaws.{vOf-length}
@@ -79,14 +80,7 @@ module _ {set : Numbers} {seedA yr old first : List ℕ} (m : Multiplies set yr 
 
         pub multiplying-factors : Factors (set .q) drawn yr (take (set .n * i + set .n - set .n * i) (drop (set .n * i) v))
         multiplying-factors =
-            record {
-              small = omega (arith, m .good .q-small);
-              some = q-some (m .good);
-              a-long = drawn-long ∙ sym lent-long;
-              b-long = m .y-long ∙ sym lent-long;
-              a-below = rw drawn-is (aOf-below set (m .good) seedA i);
-              b-below = m .y-below;
-            }
+            residues-factors (m .good) (after-residues (m .good) d drawn-long) (record { long = m .y-long; below = m .y-below }) lent-long
 
         pub multiplying-more : (new : List ℕ)
             → new ≡ residues (set .q) (length (take (set .n * i + set .n - set .n * i) (drop (set .n * i) v))) (mul (length (take (set .n * i + set .n - set .n * i) (drop (set .n * i) v))) (naturals drawn) (naturals yr))
@@ -134,17 +128,8 @@ v-all-length set seedA y = joined-length (set .k) (set .n) (vOf set seedA y) (λ
 product-v : (set : Numbers) → Good set → (seedA : List ℕ) (y : List ℤ) (i : ℕ) → productOf set seedA (residues (set .q) (set .n) (integers y)) i ≡ vOf set seedA y i
 unfolding productOf vOf
 product-v set good seedA y i =
-    table-ext (set .n) (λ k. residue (set .q) (mul (set .n) a (naturals yr) k)) (λ k. residue (set .q) (mul (set .n) a (integers y) k))
-    (λ k l. residue-eq (set .q) (mul (set .n) a (naturals yr) k) (mul (set .n) a (integers y) k) (q-some good) (mul-same (set .q) (set .n) a a (naturals yr) (integers y) k l (λ j m. same-refl (set .q) (a j)) near))
-  where
-    a : ℕ → ℤ
-    a = naturals (aOf set seedA i)
-
-    yr : List ℕ
-    yr = residues (set .q) (set .n) (integers y)
-
-    near : (j : ℕ) → j < set .n → Same (set .q) (naturals yr j) (integers y j)
-    near j m = residues-at (set .q) (set .n) (integers y) j (q-some good) m
+    table-ext (set .n) _ _
+    (λ k l. residue-eq (set .q) _ _ (q-some good) (mul-residues (set .q) (set .n) (naturals (aOf set seedA i)) (integers y) k (q-some good) l))
 
 -- the polynomials of v_1..v_k in a row
 pub v-parts : (set : Numbers) (seedA : List ℕ) (y : List ℤ) (i : ℕ) → i < set .k → polynomial (set .n) i (joined (set .k) (vOf set seedA y)) ≡ vOf set seedA y i

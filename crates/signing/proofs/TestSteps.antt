@@ -4,7 +4,7 @@ use mathlib.Core.Bool.{Bool, true, false}
 use mathlib.Core.Logic.{⊎-elim}
 use mathlib.Core.List.{List, [], _∷_, _++_}
 use Prim.Native.Nat.{ℕ, suc, _+_, _*_, _-_, _^_, _≤_, _<_, zero-le, suc-le-suc}
-use native.Mathlib.Nat.{le-antisymm, add-sub-cancel-left}
+use native.Mathlib.Nat.{add-sub-cancel-left}
 use native.Mathlib.Numerals.{add-one}
 use native.Mathlib.Omega.{arith}
 use lib.IntN.{ℤ, pos, natAbs, _+ℤ_, _-ℤ_, _*ℤ_, +ℤ-comm}
@@ -16,7 +16,7 @@ use Rattle.whole.specs.Table.{table, length-table, getD-table, table-ext}
 use Rattle.whole.specs.Below.{Below, within-more, within-table}
 use Rattle.whole.specs.Twos.{signed, signed-size}
 use Rattle.whole.specs.Refusal.{every, eachBelow}
-use Rattle.whole.specs.RefusalLaws.{not-first, eachBelow-none, eachBelow-more, eachBelow-fails}
+use Rattle.whole.specs.RefusalLaws.{not-first, eachBelow-none, eachBelow-more, eachBelow-fails, eachBelow-end}
 use Rattle.whole.specs.Rows.{row-fits, row-lent, row-next, back-length, back-rest}
 use Rattle.rounding.specs.Tests.{lowPasses, sizePasses}
 use Rattle.rounding.specs.Asks.{LowTests, SizeTests}
@@ -256,7 +256,4 @@ module _ {set : Numbers} {e old ps : List ℕ} {ss before : List ℤ} (t : Tests
         sym (eachBelow-fails (set .k) i (λ j. wPasses set (wWith set e old (sparse ps ss) j)) l (sym (same-test f) ∙ g))
 
     pub testing-all : set .k ≤ i → true ≡ eachBelow (set .k) (λ j. wPasses set (wWith set e old (sparse ps ss) j))
-    testing-all l = sym (ap (λ (j : ℕ). eachBelow j (λ j. wPasses set (wWith set e old (sparse ps ss) j))) whole ∙ h .passed)
-      where
-        whole : set .k ≡ i
-        whole = le-antisymm l (h .near)
+    testing-all l = sym (eachBelow-end _ (h .near) l (h .passed))

@@ -1,12 +1,11 @@
 -- One attempt of Algorithm 2, as a function of the set, the key, the message's digest, rand and the counter alone.
 -- Assumes nothing: these are definitions.
 use mathlib.Core.Bool.{Bool, cond, _&&_}
-use mathlib.Core.List.{List, map}
+use mathlib.Core.List.{List}
 use Prim.Native.Nat.{ℕ}
 use lib.IntN.{ℤ, pos, _+ℤ_, _-ℤ_}
-use Rattle.whole.specs.Table.{table, joined}
+use Rattle.whole.specs.Table.{table}
 use Rattle.whole.specs.Refusal.{every, eachBelow}
-use Rattle.rounding.specs.Parts.{high}
 use Rattle.rounding.specs.Tests.{lowPasses, sizePasses, fitsByte}
 use Rattle.ring.specs.Product.{mul}
 use Rattle.ring.specs.Lists.{naturals, integers, signedBytes, residues}
@@ -28,10 +27,6 @@ pub data Outcome : Type 0 where
   passes : List ℤ → List ℕ → Outcome
   fails : Outcome
   overflows : Outcome
-
--- the high parts of the k polynomials v_1..v_k, i then coefficient
-unfoldable pub highsOf : Numbers → (ℕ → List ℕ) → List ℤ
-highsOf set v = joined (set .k) (λ i. map (λ x. high (set .q) (set .d) (pos x)) (v i))
 
 -- v_(i + 1) = a_(i + 1) y, from 0 to q − 1
 unfoldable pub vOf : Numbers → List ℕ → List ℤ → ℕ → List ℕ
