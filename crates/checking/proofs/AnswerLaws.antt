@@ -2,7 +2,7 @@
 --     input-length, input-mark, input-message, input-t, input-z, input-passes      those of the inputs
 --     hash-high, hash-differs, hash-accepts      the last two tests
 -- Assumes nothing.
-use mathlib.Core.Path.{_≡_, sym, ap, subst, _∙_}
+use mathlib.Core.Path.{_≡_, sym, ap, subst, _∙_, refl}
 use mathlib.Core.Bool.{Bool, true, false, _&&_}
 use types.Run.{OneOf, miss}
 use denote.Enum.Declared.{tagOf}
@@ -19,8 +19,8 @@ use Rattle.sets.specs.SetI.{setI, setI-good}
 use Rattle.sets.specs.Limits.{messageLimit}
 use Rattle.records.specs.Layout.{marked, publicBytes, signatureBytes}
 use Rattle.records.specs.Public.{allT, tInRange}
-use Rattle.records.specs.Signature.{zOf, zInRange}
-use Rattle.records.specs.SignatureParts.{Room}
+use Rattle.signatures.specs.Signature.{zOf, zInRange}
+use Rattle.signatures.specs.Parts.{Room}
 use Rattle.checking.specs.Asks.{ForRange, ForZ, Tested, Scratch, ForTested}
 use Rattle.checking.specs.Steps.{inputTests, hashTests, workTests}
 use Rattle.checking.specs.Check.{checkTests}

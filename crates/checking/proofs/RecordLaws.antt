@@ -14,16 +14,16 @@ use Rattle.whole.specs.RefusalLaws.{answer-pass, answer-first}
 use Rattle.sets.specs.declared.Numbers.{Numbers}
 use Rattle.records.specs.declared.KeyRecord.{KeyRecord}
 use Rattle.records.specs.declared.KeyRecord.the-variants.{Done, Length, Mark, Value}
-use Rattle.records.specs.declared.signature.SignatureRecord.{SignatureRecord}
-use Rattle.records.specs.declared.signature.SignatureRecord.the-variants as answers
+use Rattle.signatures.specs.declared.SignatureRecord.{SignatureRecord}
+use Rattle.signatures.specs.declared.SignatureRecord.the-variants as answers
 use Rattle.records.specs.Answers.{keyRecordNumber}
-use Rattle.records.specs.SignatureAnswers.{signatureRecordNumber}
+use Rattle.signatures.specs.Answers.{signatureRecordNumber}
 use Rattle.records.specs.Layout.{publicBytes, signatureBytes}
 use Rattle.records.specs.Public.{allT, tInRange, publicTests}
-use Rattle.records.specs.Signature.{zOf, zInRange}
-use Rattle.records.specs.SignatureParts.{signatureTests}
+use Rattle.signatures.specs.Signature.{zOf, zInRange}
+use Rattle.signatures.specs.Parts.{signatureTests}
 use Rattle.records.proofs.KeyRecord.{the-type}
-use Rattle.records.proofs.signature.SignatureRecord as signature-type
+use Rattle.signatures.proofs.SignatureRecord as signature-type
 use Rattle.checking.specs.Asks.{ForRange, ForZ}
 
 -- one test left, with a number other than 0

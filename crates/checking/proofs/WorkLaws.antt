@@ -35,8 +35,8 @@ use Rattle.sampling.specs.DrawnAsks.{AreDrawn}
 use Rattle.sampling.specs.Residues.{made-residues}
 use Rattle.records.specs.Layout.{seedBytes, tBytes, zBytes, publicBytes, signatureBytes}
 use Rattle.records.specs.Public.{tOf, seedAOf}
-use Rattle.records.specs.Signature.{zOf, challengeOf, zInRange}
-use Rattle.records.specs.SignatureLaws.{zOf-length}
+use Rattle.signatures.specs.Signature.{zOf, challengeOf, zInRange}
+use Rattle.signatures.specs.Laws.{zOf-length}
 use Rattle.checking.specs.declared.hash.Highs.{Highs}
 use Rattle.checking.specs.Check.{checkW, checkHighs, publicG}
 use Rattle.checking.specs.Asks.{ForEachT, ForResidues, ForHighs, ForTested}

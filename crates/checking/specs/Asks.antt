@@ -15,8 +15,8 @@ use Rattle.sampling.specs.DrawA.{ValidA}
 use Rattle.sampling.specs.Residues.{Residues}
 use Rattle.records.specs.Layout.{marked, digestBytes, publicBytes, signatureBytes}
 use Rattle.records.specs.Public.{tInRange, allT}
-use Rattle.records.specs.Signature.{zOf, zInRange}
-use Rattle.records.specs.SignatureParts.{Room}
+use Rattle.signatures.specs.Signature.{zOf, zInRange}
+use Rattle.signatures.specs.Parts.{Room}
 
 -- c, as positions with signs
 pub record Challenge (set : Numbers) (ps : List ℕ) (ss : List ℤ) : Type 0 where

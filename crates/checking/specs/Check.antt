@@ -14,7 +14,7 @@ use Rattle.sets.specs.Limits.{messageLimit}
 use Rattle.sampling.specs.Streams.{aOf, encOf, challenge, messageDigest, keyDigest, highsOf}
 use Rattle.records.specs.Layout.{marked, stretch, tBytes, publicBytes, signatureBytes}
 use Rattle.records.specs.Public.{tOf, allT, seedAOf, tInRange}
-use Rattle.records.specs.Signature.{zOf, challengeOf, zInRange}
+use Rattle.signatures.specs.Signature.{zOf, challengeOf, zInRange}
 use Rattle.sampling.specs.Positions.{polynomialOf}
 use Rattle.rounding.specs.Tests.{fitsByte}
 

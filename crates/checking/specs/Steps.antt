@@ -25,7 +25,7 @@ use Rattle.sampling.specs.DrawA.{valuesLeft, StartedA, AfterA}
 use Rattle.sampling.specs.DrawALaws.{AtA}
 use Rattle.records.specs.Layout.{marked, polynomial, publicBytes, signatureBytes}
 use Rattle.records.specs.Public.{tOf, allT, seedAOf, tInRange}
-use Rattle.records.specs.Signature.{zOf, challengeOf, zInRange}
+use Rattle.signatures.specs.Signature.{zOf, challengeOf, zInRange}
 use Rattle.checking.specs.declared.hash.Highs.{Highs}
 use Rattle.checking.specs.Check.{checkHighs, publicG}
 

@@ -1,8 +1,8 @@
 // The tests of checking's inputs, in document 01's order.
 use crate::CheckAnswer;
 use records::KeyRecord;
-use records::signature::SignatureRecord;
 use sets::Numbers;
+use signatures::SignatureRecord;
 ghost use mathlib.Core.Path.{_≡_};
 ghost use mathlib.Core.Bool.{_&&_};
 ghost use lib.Dec.{eqb};
@@ -10,8 +10,8 @@ ghost use Rattle.whole.specs.Refusal.{answer};
 ghost use Rattle.sets.specs.Good.{Good};
 ghost use Rattle.records.specs.Layout.{marked, publicBytes, signatureBytes};
 ghost use Rattle.records.specs.Public.{allT, tInRange};
-ghost use Rattle.records.specs.Signature.{zOf, zInRange};
-ghost use Rattle.records.specs.SignatureParts.{Room};
+ghost use Rattle.signatures.specs.Signature.{zOf, zInRange};
+ghost use Rattle.signatures.specs.Parts.{Room};
 ghost use Rattle.checking.specs.Answers.{checkAnswerNumber};
 ghost use Rattle.checking.specs.Asks.{ForRange, ForZ};
 ghost use Rattle.checking.specs.Steps.{inputTests};
@@ -22,7 +22,7 @@ fn lengths(set: Numbers, public: usize, signature: usize) -> bool
     ensures { λ r. ⌜ r ≡ (eqb public (publicBytes set) && eqb signature (signatureBytes set)) ⌝ }
 {
     if public == records::public::public_bytes(set) {
-        signature == records::signature::signature_bytes(set)
+        signature == signatures::signature_bytes(set)
     } else {
         false
     }
@@ -56,7 +56,7 @@ fn z_passes(set: Numbers, signature: &[u8], scratch: &mut [u32]) -> bool
     requires { ⌜ ForZ set (now signature) (now scratch) ⌝ }
     ensures { λ r. ⌜ r ≡ zInRange set (zOf set (now (signature .entry))) ⌝ }
 {
-    let tested = records::signature::test_signature(set, signature, scratch);
+    let tested = signatures::test_signature(set, signature, scratch);
     let SignatureRecord::Done = tested else {
         return false;
     };

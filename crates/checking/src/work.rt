@@ -11,7 +11,7 @@ ghost use Rattle.ring.specs.Lists.{integers, residues};
 ghost use Rattle.sampling.specs.Positions.{positionsOf, signsOf};
 ghost use Rattle.sampling.specs.Streams.{encOf, challenge, messageDigest};
 ghost use Rattle.records.specs.Public.{tOf, seedAOf};
-ghost use Rattle.records.specs.Signature.{zOf};
+ghost use Rattle.signatures.specs.Signature.{zOf};
 ghost use Rattle.checking.specs.Answers.{checkAnswerNumber};
 ghost use Rattle.checking.specs.Asks.{ForResidues, ForG, ForHighs, ForTested};
 ghost use Rattle.checking.specs.Check.{publicG};
@@ -22,7 +22,7 @@ fn z_residues(set: Numbers, signature: &[u8], z: &mut [i32], zr: &mut [u32])
     requires { ⌜ ForResidues set (now signature) (now z) (now zr) ⌝ }
     ensures { λ _. ⌜ now (zr .exit) ≡ residues (set .q) (set .n) (integers (zOf set (now (signature .entry)))) ⌝ }
 {
-    records::signature::unpack_z(set, signature, z, zr);
+    signatures::unpack_z(set, signature, z, zr);
     ring::sums::residues_of(z, set.q, zr);
 }
 
@@ -115,7 +115,7 @@ pub fn check_tested(
     ensures { λ r. ⌜ checkAnswerNumber r ≡ answer (workTests set (now (public .entry)) (now (message .entry)) (now (signature .entry))) ⌝ }
 {
     z_residues(set, signature, z, zr);
-    let from = records::signature::signature_bytes(set) - 32;
+    let from = signatures::signature_bytes(set) - 32;
     check_hash(
         set,
         public,

@@ -19,7 +19,7 @@ use Rattle.sets.specs.declared.Numbers.{Numbers}
 use Rattle.sampling.specs.Lent.{testsA, testsY, testsEnc}
 use Rattle.records.specs.Public.{readPublicTests, writePublicTests}
 use Rattle.records.specs.Secret.{readSecretTests, writeSecretTests}
-use Rattle.records.specs.Signature.{readSignatureTests, writeSignatureTests}
+use Rattle.signatures.specs.Signature.{readSignatureTests, writeSignatureTests}
 use Rattle.keys.specs.Key.{makeKeyTests}
 use Rattle.signing.specs.Search.{Found, found, none as none-found, overflow}
 use Rattle.signing.specs.Sign.{signTests, signNumber, signCounter, signSignature}

@@ -35,14 +35,14 @@ use Rattle.records.specs.Public.{packedT}
 use Rattle.records.specs.Secret.{secretSeedY}
 use Rattle.records.specs.SecretPlaces.{SecretLengths}
 use Rattle.records.specs.SecretLaws.{secret-s, secret-e, secret-seedA, secret-g}
-use Rattle.records.specs.Signature.{signatureRecord}
+use Rattle.signatures.specs.Signature.{signatureRecord}
 use Rattle.keys.specs.Key.{allKeyT, publicOf, secretOf, eachEPasses, makeKeyTests}
 use Rattle.signing.specs.Attempt.{Key, Outcome, passes, fails, overflows, attempt, tried, answered, attemptPasses, vOf, zFrom}
 use Rattle.signing.specs.Search.{Found, found, none, overflow}
 use Rattle.signing.specs.SearchLaws.{Stopped, found-smallest, none-fails, fails-none, overflow-somewhere}
 use Rattle.signing.specs.Sign.{keyOf, signTests, signSearch, signNumber, signSignature, signCounter}
 use Rattle.records.specs.Public.{tOf, seedAOf}
-use Rattle.records.specs.Signature.{zOf, challengeOf}
+use Rattle.signatures.specs.Signature.{zOf, challengeOf}
 use Rattle.checking.specs.Check.{checkTests, checkW, checkHighs}
 use Rattle.demands.specs.Holds.{madeKey, accepted}
 

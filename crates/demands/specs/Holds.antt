@@ -30,9 +30,9 @@ use Rattle.sampling.specs.Streams.{aOf, yOf, encOf, challenge, messageDigest, k
 use Rattle.records.specs.Layout.{marked, seedBytes, publicBytes}
 use Rattle.records.specs.Public.{packedT, tOf, allT, seedAOf}
 use Rattle.records.specs.Secret.{eOf}
-use Rattle.records.specs.Signature.{signatureRecord, zOf, challengeOf, zInRange}
+use Rattle.signatures.specs.Signature.{signatureRecord, zOf, challengeOf, zInRange}
 use Rattle.records.specs.PublicLaws.{polynomial-length, below-tInRange, publicRecord-length, public-marked, public-packed, public-seedA, public-t, public-allT}
-use Rattle.records.specs.SignatureLaws.{signatureRecord-length, signature-marked, signature-challenge, signature-z}
+use Rattle.signatures.specs.Laws.{signatureRecord-length, signature-marked, signature-challenge, signature-z}
 use Rattle.keys.specs.Key.{keyT, allKeyT, publicOf, eachEPasses}
 use Rattle.keys.specs.KeyLaws.{keyT-length, allKeyT-length, allKeyT-below}
 use Rattle.signing.specs.Attempt.{Key, passes, vOf, zFrom, wOf, wPasses, attempt}

@@ -15,7 +15,7 @@ use Rattle.sets.specs.declared.Numbers.{Numbers}
 use Rattle.sets.specs.Good.{Good}
 use Rattle.sets.specs.Limits.{messageLimit}
 use Rattle.records.specs.Layout.{marked, publicBytes, signatureBytes}
-use Rattle.records.specs.Signature.{zOf, zInRange}
+use Rattle.signatures.specs.Signature.{zOf, zInRange}
 use Rattle.keys.specs.Key.{publicOf, secretOf, makeKeyTests}
 use Rattle.checking.specs.Check.{checkTests}
 use Rattle.envelope.specs.Envelope.{envelopeBytes, envelopeOf, openTests, writeTests, teamOf, rosterOf, teamAnswered, rosterAnswered}

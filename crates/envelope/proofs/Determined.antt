@@ -53,7 +53,7 @@ write-back Message = refl
 write-back Z = refl
 
 pub write-determined : Result 3 write-kinds.ps write-kinds.r write.Learnt
-write-determined κs a x y e f p q = one-to-one writeWith write-back x y (p .0 ∙ sym (q .0))
+write-determined κs a x y e f p q = one-to-one {f = writeEnvelopeNumber} writeWith write-back x y (p .0 ∙ sym (q .0))
 
 pub write-envelope : Output 3 write-kinds.ps write-kinds.r write.Learnt (λ κs e. now (e .1 .1 .1 .0))
 write-envelope κs a x y e f p q = p .1 ∙ sym (q .1)

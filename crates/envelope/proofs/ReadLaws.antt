@@ -12,8 +12,8 @@ use Rattle.whole.specs.RefusalLaws.{answer-pass}
 use Rattle.sets.specs.declared.Numbers.{Numbers}
 use Rattle.sets.specs.SetI.{setI}
 use Rattle.records.specs.Layout.{marked, stretch, signatureBytes}
-use Rattle.records.specs.Signature.{zOf, zInRange}
-use Rattle.records.specs.SignatureParts.{signatureTests}
+use Rattle.signatures.specs.Signature.{zOf, zInRange}
+use Rattle.signatures.specs.Parts.{signatureTests}
 use Rattle.envelope.specs.declared.ReadEnvelope.{ReadEnvelope}
 use Rattle.envelope.specs.Answers.{readEnvelopeNumber, readEnvelopeTeam, readEnvelopeLength}
 use Rattle.envelope.specs.Envelope.{headBytes, signatureOf, readTests}

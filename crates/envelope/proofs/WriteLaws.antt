@@ -18,7 +18,7 @@ use Rattle.sets.specs.Limits.{messageLimit}
 use Rattle.sets.specs.SetI.{setI}
 use Rattle.sampling.specs.Streams.{twoBytes}
 use Rattle.records.specs.Layout.{mark, marked, signatureBytes}
-use Rattle.records.specs.SignatureParts.{signatureTests}
+use Rattle.signatures.specs.Parts.{signatureTests}
 use Rattle.envelope.specs.declared.WriteEnvelope.{WriteEnvelope}
 use Rattle.envelope.specs.declared.WriteEnvelope.the-variants.{Done, Length, Mark, Message, Z}
 use Rattle.envelope.specs.Answers.{writeEnvelopeNumber}

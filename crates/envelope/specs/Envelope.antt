@@ -11,7 +11,7 @@ use Rattle.sets.specs.declared.Numbers.{Numbers}
 use Rattle.sets.specs.Limits.{messageLimit}
 use Rattle.sampling.specs.Streams.{twoBytes}
 use Rattle.records.specs.Layout.{mark, marked, stretch, signatureBytes}
-use Rattle.records.specs.Signature.{zOf, zInRange}
+use Rattle.signatures.specs.Signature.{zOf, zInRange}
 use Rattle.checking.specs.Check.{checkTests}
 
 -- the bytes before the roster

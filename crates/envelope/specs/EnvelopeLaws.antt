@@ -20,7 +20,7 @@ use Rattle.sets.specs.Limits.{messageLimit}
 use Rattle.sampling.specs.Streams.{twoBytes}
 use Rattle.records.specs.Layout.{mark, marked, stretch, signatureBytes}
 use Rattle.records.specs.PublicLaws.{marked-mark, marked-front}
-use Rattle.records.specs.Signature.{zOf, zInRange}
+use Rattle.signatures.specs.Signature.{zOf, zInRange}
 use Rattle.checking.specs.Check.{checkTests}
 use Rattle.envelope.specs.Envelope.{headBytes, envelopeBytes, envelopeOf, numberAt, teamOf, lengthOf, rosterOf, signatureOf, headTests, readTests, openTests, writeTests, rosterAnswered}
 

@@ -33,7 +33,7 @@ pub fn is_total(set: Numbers, len: usize, total: usize) -> bool
     requires { ⌜ Good set ⌝ }
     ensures { λ r. ⌜ r ≡ eqb total (envelopeBytes set len) ⌝ }
 {
-    let around = HEAD_BYTES + records::signature::signature_bytes(set);
+    let around = HEAD_BYTES + signatures::signature_bytes(set);
     if total < around {
         false
     } else {

@@ -4,17 +4,17 @@ mod parts;
 mod writing;
 
 use checking::CheckAnswer;
-use records::signature::SignatureRecord;
 use sets::Numbers;
 use sets::SetI;
+use signatures::SignatureRecord;
 ghost use mathlib.Core.Path.{_≡_};
 ghost use Prim.Native.Nat.{_+_};
 ghost use lib.ListN.{length};
 ghost use Rattle.whole.specs.Refusal.{answer, after};
 ghost use Rattle.sets.specs.SetI.{setI};
 ghost use Rattle.records.specs.Layout.{stretch, signatureBytes};
-ghost use Rattle.records.specs.SignatureAnswers.{signatureRecordNumber};
-ghost use Rattle.records.specs.SignatureParts.{Room};
+ghost use Rattle.signatures.specs.Answers.{signatureRecordNumber};
+ghost use Rattle.signatures.specs.Parts.{Room};
 ghost use Rattle.checking.specs.Answers.{checkAnswerNumber};
 ghost use Rattle.envelope.specs.Answers.{writeEnvelopeNumber, readEnvelopeNumber, readEnvelopeTeam, readEnvelopeLength, openedNumber, openedTeam, openedLength};
 ghost use Rattle.envelope.specs.Envelope.{headBytes, envelopeOf, lengthOf, readTests, openTests, writeTests, teamAnswered};
@@ -236,7 +236,7 @@ fn read_in(set: Numbers, envelope: &[u8], scratch: &mut [u32]) -> ReadEnvelope
         return head;
     };
     let signed = parts::signature_in(set, envelope, len);
-    let tested = records::signature::test_signature(set, signed, scratch);
+    let tested = signatures::test_signature(set, signed, scratch);
     parts_of(team, len, tested)
 }
 

@@ -28,7 +28,7 @@ pub fn signature_in(set: Numbers, envelope: &[u8], len: usize) -> &[u8]
     requires { ⌜ Good set ⌝ }
     ensures { λ r. ⌜ now r ≡ stretch (headBytes + len) (signatureBytes set) (now (envelope .entry)) ⌝ }
 {
-    let size = records::signature::signature_bytes(set);
+    let size = signatures::signature_bytes(set);
     let body = stretch_of(envelope, HEAD_BYTES, envelope.len());
     stretch_of(body, len, size)
 }

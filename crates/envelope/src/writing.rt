@@ -3,8 +3,8 @@ use crate::WriteEnvelope;
 use crate::head;
 use crate::head::HEAD_BYTES;
 use records::pieces;
-use records::signature::SignatureRecord;
 use sets::Numbers;
+use signatures::SignatureRecord;
 ghost use mathlib.Core.Path.{_≡_};
 ghost use mathlib.Core.Bool.{_&&_};
 ghost use mathlib.Core.List.{_++_};
@@ -15,8 +15,8 @@ ghost use Rattle.whole.specs.Refusal.{answer};
 ghost use Rattle.sets.specs.Good.{Good};
 ghost use Rattle.sampling.specs.Streams.{twoBytes};
 ghost use Rattle.records.specs.Layout.{signatureBytes};
-ghost use Rattle.records.specs.SignatureAnswers.{signatureRecordNumber};
-ghost use Rattle.records.specs.SignatureParts.{Room};
+ghost use Rattle.signatures.specs.Answers.{signatureRecordNumber};
+ghost use Rattle.signatures.specs.Parts.{Room};
 ghost use Rattle.envelope.specs.Answers.{writeEnvelopeNumber};
 ghost use Rattle.envelope.specs.Envelope.{envelopeBytes, envelopeOf, writeTests};
 ghost use Rattle.envelope.specs.EnvelopeLaws.{Writable};
@@ -26,7 +26,7 @@ fn lengths(set: Numbers, roster: usize, signature: usize, envelope: usize) -> bo
     requires { ⌜ Good set ⌝ }
     ensures { λ r. ⌜ r ≡ (eqb signature (signatureBytes set) && eqb envelope (envelopeBytes set roster)) ⌝ }
 {
-    if signature == records::signature::signature_bytes(set) {
+    if signature == signatures::signature_bytes(set) {
         head::is_total(set, roster, envelope)
     } else {
         false
@@ -66,7 +66,7 @@ pub fn test_write(
         return WriteEnvelope::Message;
     }
     // its length and its mark passed: z is what is left
-    answer_of(records::signature::test_signature(set, signature, scratch))
+    answer_of(signatures::test_signature(set, signature, scratch))
 }
 
 // Writes the team number and L after the mark, two bytes each, low first.

@@ -2,8 +2,4 @@ pub mod AnswerLaws
 pub mod PieceLaws
 pub mod PublicSteps
 pub mod SecretSteps
-pub mod SignatureSizes
-pub mod SignatureSteps
-pub mod SignatureEntries
 pub mod Determined
-pub mod DeterminedSignature

@@ -8,7 +8,3 @@ pub mod SizeLaws
 pub mod Secret
 pub mod SecretPlaces
 pub mod SecretLaws
-pub mod Signature
-pub mod SignatureAnswers
-pub mod SignatureParts
-pub mod SignatureLaws

@@ -2,7 +2,6 @@
 pub mod pieces;
 pub mod public;
 pub mod secret;
-pub mod signature;
 
 use sets::SetI;
 ghost use mathlib.Core.Path.{_≡_};

@@ -2,7 +2,7 @@
 use checking::CheckAnswer;
 use keys::KeyAnswer;
 use records::KeyRecord;
-use records::signature::SignatureRecord;
+use signatures::SignatureRecord;
 use signing::SignAnswer;
 
 fn print_number(number: u8) {

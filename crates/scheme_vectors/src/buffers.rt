@@ -18,7 +18,7 @@ pub fn whole_records() -> Lent {
     Lent {
         public: records::public::public_bytes(SetI::numbers()),
         secret: records::secret::secret_bytes(SetI::numbers()),
-        signature: records::signature::signature_bytes(SetI::numbers()),
+        signature: signatures::signature_bytes(SetI::numbers()),
     }
 }
 

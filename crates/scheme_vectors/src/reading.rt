@@ -119,7 +119,7 @@ pub fn secret(given: &[u8], lent: Lent, secret: &[u8]) {
 fn read_signature(signature: &[u8], z: &mut [i32], c: &mut [u8], bytes: &mut [u8])
     requires { ⌜ length (now bytes) ≡ 4 * length (now z) ⌝ }
 {
-    answers::print_signature_record(records::signature::read_signature(signature, z, c));
+    answers::print_signature_record(signatures::read_signature(signature, z, c));
     cases::values::of_i32(z, bytes);
     print_hash(bytes);
     print_hash(c);

@@ -97,7 +97,7 @@ fn write_signature(bytes: &[u8], c: &[u8], z: &mut [i32], signature: &mut [u8])
     requires { ⌜ length (now z) ≤ 1028 ⌝ }
 {
     values_z(bytes, z);
-    answers::print_signature_record(records::signature::write_signature(z, c, signature));
+    answers::print_signature_record(signatures::write_signature(z, c, signature));
 }
 
 // The same into what is lent, with z of as many values as there are bytes for.

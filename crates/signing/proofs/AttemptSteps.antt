@@ -22,7 +22,7 @@ use Rattle.sampling.specs.StreamsLaws.{encOf-length, encOf-signed, yOf-length}
 use Rattle.sampling.specs.SpongeLaws.{challenge-squeezed}
 use Rattle.sampling.specs.DrawnAsks.{DrawEnc, AreDrawn}
 use Rattle.records.specs.Layout.{polynomial}
-use Rattle.records.specs.Signature.{zInRange}
+use Rattle.signatures.specs.Signature.{zInRange}
 use Rattle.signing.specs.Attempt.{passes, fails, overflows, vOf, zFrom, wOf, wPasses, attemptPasses, answered, tried, attempt}
 use Rattle.signing.specs.Parts.{zWith, wOne, wWith}
 use Rattle.signing.specs.Answers.{keyWith}

@@ -16,7 +16,7 @@ use Rattle.sets.specs.Limits.{budgetLimit}
 use Rattle.sampling.specs.Streams.{yOf, encOf, messageDigest, randOf}
 use Rattle.records.specs.Layout.{seedBytes, digestBytes, secretBytes, signatureBytes}
 use Rattle.records.specs.Secret.{secretSeedA, secretSeedY, secretG}
-use Rattle.records.specs.Signature.{signatureRecord, zInRange}
+use Rattle.signatures.specs.Signature.{signatureRecord, zInRange}
 use Rattle.signing.specs.declared.search.Searched.{Searched}
 use Rattle.signing.specs.Attempt.{Key, passes, vOf, attempt}
 use Rattle.signing.specs.AttemptLaws.{passing, attempt-z}

@@ -11,9 +11,9 @@ use Rattle.ring.specs.Product.{mul}
 use Rattle.ring.specs.Lists.{naturals, integers, signedBytes, residues}
 use Rattle.sets.specs.declared.Numbers.{Numbers}
 use Rattle.sampling.specs.Positions.{Drawn, polynomialOf}
-use Rattle.sampling.specs.Streams.{aOf, yOf, challenge, encOf}
+use Rattle.sampling.specs.Streams.{aOf, yOf, challenge, encOf, highsOf}
 use Rattle.records.specs.Secret.{eOf}
-use Rattle.records.specs.Signature.{zInRange}
+use Rattle.signatures.specs.Signature.{zInRange}
 
 -- what an attempt takes from the secret record
 pub record Key : Type 0 where

@@ -17,7 +17,7 @@ use Rattle.rounding.specs.Tests.{fitsByte}
 use Rattle.sets.specs.declared.Numbers.{Numbers}
 use Rattle.sampling.specs.Positions.{Drawn}
 use Rattle.sampling.specs.Streams.{yOf, encOf, challenge, highsOf}
-use Rattle.records.specs.Signature.{zInRange}
+use Rattle.signatures.specs.Signature.{zInRange}
 use Rattle.signing.specs.Attempt.{Key, passes, fails, overflows, vOf, zFrom, wOf, wPasses, attemptPasses, answered, tried, attempt}
 
 -- ---- lengths

@@ -12,7 +12,7 @@ use Rattle.sets.specs.Limits.{messageLimit, budgetLimit}
 use Rattle.sampling.specs.Streams.{messageDigest, randOf}
 use Rattle.records.specs.Layout.{marked, seedBytes, secretBytes, signatureBytes}
 use Rattle.records.specs.Secret.{sOf, allE, secretSeedA, secretSeedY, secretG, inByteRange}
-use Rattle.records.specs.Signature.{signatureRecord}
+use Rattle.signatures.specs.Signature.{signatureRecord}
 use Rattle.keys.specs.Key.{eachEPasses}
 use Rattle.signing.specs.Attempt.{Key, attempt}
 use Rattle.signing.specs.Search.{Found, found, none, overflow, search}

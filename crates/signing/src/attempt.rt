@@ -14,7 +14,7 @@ ghost use Rattle.shake.specs.Sponge.{absorbed};
 ghost use Rattle.sets.specs.Marks.{fresh};
 ghost use Rattle.sampling.specs.Streams.{yOf, encOf, highsOf};
 ghost use Rattle.records.specs.Layout.{polynomial};
-ghost use Rattle.records.specs.Signature.{zInRange};
+ghost use Rattle.signatures.specs.Signature.{zInRange};
 ghost use Rattle.signing.specs.Attempt.{vOf, zFrom, wOf, wPasses, attempt};
 ghost use Rattle.signing.specs.Parts.{productOf, zWith, wOne, wWith};
 ghost use Rattle.signing.specs.Answers.{outcomeOf, keyWith};
@@ -174,7 +174,7 @@ fn respond(
 {
     sampling::drawn::draw_enc(set, c, positions, signs);
     make_z(set, s, y, positions, signs, z);
-    if !records::signature::z_in_range(set, z) {
+    if !signatures::z_in_range(set, z) {
         return false;
     }
     w_tests(set, e, v, positions, signs, y)

@@ -38,7 +38,7 @@ fn lengths(set: Numbers, secret: usize, r: usize, signature: usize) -> bool
 {
     if secret == records::secret::secret_bytes(set) {
         if r == records::SEED_BYTES {
-            signature == records::signature::signature_bytes(set)
+            signature == signatures::signature_bytes(set)
         } else {
             false
         }

@@ -229,7 +229,7 @@ fn sign_tested(
     );
     match found {
         Searched::Found(counter) => {
-            records::signature::write_checked(set, z, c, signature, a);
+            signatures::write_checked(set, z, c, signature, a);
             SignAnswer::Signed(counter)
         }
         Searched::Nothing => SignAnswer::None,

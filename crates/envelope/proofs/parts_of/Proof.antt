@@ -1,6 +1,6 @@
 -- `envelope::parts_of` meets its contract. Assumes nothing.
 use mathlib.Core.Path.{ap}
-use Rattle.records.specs.SignatureAnswers.{signatureRecordNumber}
+use Rattle.signatures.specs.Answers.{signatureRecordNumber}
 use Rattle.envelope.proofs.HeadLaws.{parts-done, parts-refused}
 use borrow.Author.Needs.{needs}
 use Rattle.envelope.proofs.parts_of.Statement.{statement}

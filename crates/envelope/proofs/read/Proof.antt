@@ -1,7 +1,7 @@
 -- `envelope::read` meets its contract: it is `read_in` with set I's numbers. Assumes nothing.
 use mathlib.Core.Path.{refl}
 use Rattle.envelope.proofs.ReadLaws.{read-i}
-use Rattle.records.specs.SignatureLaws.{room-i}
+use Rattle.signatures.specs.Laws.{room-i}
 use borrow.Author.Needs.{needs}
 use Rattle.envelope.proofs.read.Statement.{statement}
 use Rattle.envelope.proofs.read.Tie as tie

@@ -1,6 +1,6 @@
 -- `envelope::write` meets its contract: it is `write_in` with set I's numbers. Assumes nothing.
 use mathlib.Core.Path.{refl}
-use Rattle.records.specs.SignatureLaws.{room-i}
+use Rattle.signatures.specs.Laws.{room-i}
 use Rattle.envelope.proofs.WriteLaws.{wrote-i}
 use borrow.Author.Needs.{needs}
 use Rattle.envelope.proofs.write.Statement.{statement}

@@ -1,0 +1,4 @@
+pub mod Sizes
+pub mod Steps
+pub mod Entries
+pub mod Determined

@@ -1,0 +1,43 @@
+-- The signature record: mark 3, z at its width in two's complement, c'.
+-- Assumes nothing: these are definitions.
+use mathlib.Core.Bool.{Bool, _&&_}
+use mathlib.Core.List.{List, [], _∷_, _++_, map}
+use Prim.Native.Nat.{ℕ, _+_, _-_}
+use lib.Dec.{eqb}
+use lib.IntN.{ℤ}
+use lib.ListN.{length}
+use Rattle.whole.specs.Refusal.{Test, _orElse_, every}
+use Rattle.whole.specs.Twos.{signed, twos}
+use Rattle.rounding.specs.Tests.{zPasses}
+use Rattle.packing.specs.Digits.{packed, unpacked}
+use Rattle.sets.specs.declared.Numbers.{Numbers}
+use Rattle.records.specs.Layout.{mark, marked, stretch, seedBytes, zBytes, signatureBytes}
+
+unfoldable pub signatureRecord : Numbers → List ℤ → List ℕ → List ℕ
+signatureRecord s z c′ = mark s 3 ++ (packed (s .«z_bits») (map (twos (s .«z_bits»)) z) ++ c′)
+
+-- the values of a record
+unfoldable pub zOf : Numbers → List ℕ → List ℤ
+zOf s signature = map (signed (s .«z_bits»)) (unpacked (s .«z_bits») (s .n) (stretch 2 (zBytes s) signature))
+
+unfoldable pub challengeOf : Numbers → List ℕ → List ℕ
+challengeOf s signature = stretch (2 + zBytes s) seedBytes signature
+
+-- every z is from −(B − S) to B − S
+unfoldable pub zInRange : Numbers → List ℤ → Bool
+zInRange s z = every (zPasses (s .b - s .s)) z
+
+-- ---- the tests
+
+unfoldable pub readSignatureTests : Numbers → List ℕ → ℕ → ℕ → List Test
+readSignatureTests s signature zLength cLength =
+    ((eqb (length signature) (signatureBytes s) && (eqb zLength (s .n) && eqb cLength seedBytes)) orElse 1)
+    ∷ (marked s 3 signature orElse 2)
+    ∷ (zInRange s (zOf s signature) orElse 9)
+    ∷ []
+
+unfoldable pub writeSignatureTests : Numbers → List ℤ → List ℕ → ℕ → List Test
+writeSignatureTests s z c′ signatureLength =
+    ((eqb (length z) (s .n) && (eqb (length c′) seedBytes && eqb signatureLength (signatureBytes s))) orElse 1)
+    ∷ (zInRange s z orElse 9)
+    ∷ []
