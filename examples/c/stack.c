@@ -1,5 +1,7 @@
 /* How much stack each entry takes, for those who have little. Each runs on a thread whose stack is painted first; what is no longer
- * painted was used. What a thread takes by itself is taken off. Exits with 1 if an entry takes 64 KiB or more, or does not answer 0. */
+ * painted was used. What a thread takes by itself is taken off. Exits with 1 if an entry takes 64 KiB or more, or less than the arrays that
+ * it is known to make, or does not answer 0. */
+#define _XOPEN_SOURCE 700 /* pthread_attr_setstack */
 #include <pthread.h>
 #include <stdio.h>
 #include <string.h>
@@ -82,23 +84,24 @@ static uint8_t shake256(void) { return maesikkong_shake256(roster, LEN, stream, 
 static const struct {
     const char *name;
     uint8_t (*call)(void);
+    size_t arrays; /* its own, in bytes: docs/DECISIONS.md */
 } ENTRIES[] = {
-    {"make_key", make_key},
-    {"sign", sign},
-    {"check", check},
-    {"read_public", read_public},
-    {"write_public", write_public},
-    {"read_secret", read_secret},
-    {"write_secret", write_secret},
-    {"read_signature", read_signature},
-    {"write_signature", write_signature},
-    {"write_envelope", write_envelope},
-    {"read_envelope", read_envelope},
-    {"open_envelope", open_envelope},
-    {"shake256", shake256},
-    {"take_a", take_a},
-    {"take_y", take_y},
-    {"take_positions", take_positions},
+    {"make_key", make_key, 12388},
+    {"sign", sign, 34071},
+    {"check", check, 25675},
+    {"read_public", read_public, 4096},
+    {"write_public", write_public, 0},
+    {"read_secret", read_secret, 0},
+    {"write_secret", write_secret, 0},
+    {"read_signature", read_signature, 4096},
+    {"write_signature", write_signature, 4096},
+    {"write_envelope", write_envelope, 4096},
+    {"read_envelope", read_envelope, 4096},
+    {"open_envelope", open_envelope, 25675},
+    {"shake256", shake256, 0},
+    {"take_a", take_a, 0},
+    {"take_y", take_y, 0},
+    {"take_positions", take_positions, 0},
 };
 
 static uint8_t (*called)(void);
@@ -136,7 +139,7 @@ int main(void) {
         failures++;
     for (size_t i = 0; i < sizeof ENTRIES / sizeof *ENTRIES; i++) {
         size_t taken = used(ENTRIES[i].call);
-        int good = own < taken && taken - own < LIMIT && answered == MAESIKKONG_DONE;
+        int good = own + ENTRIES[i].arrays <= taken && taken - own < LIMIT && answered == MAESIKKONG_DONE;
         printf("%s: %zu bytes of stack, answer %d%s\n", ENTRIES[i].name, taken - own, answered, good ? "" : " FAILED");
         failures += !good;
     }
