@@ -8,7 +8,7 @@ use types.Run.{OneOf, miss}
 use denote.Enum.Declared.{tagOf}
 use mathlib.Core.List.{List, [], _∷_}
 use Prim.Native.Nat.{ℕ, suc, _≤_, _<_}
-use lib.Dec.{eqb, lit<}
+use lib.Dec.{eqb}
 use lib.IntN.{ℤ}
 use lib.ListN.{length}
 use borrow.Author.Tests.{eqb-true, le-leb, lt-leb}
@@ -92,7 +92,7 @@ module _ (set : Numbers) (public signature scratch : List ℕ) (room : Room set 
   pub range-asks : ForRange set public scratch
   range-asks =
       record {
-        good = room .signs .good;
+        good = room .good;
         long = same-first (length public) (publicBytes set) _ lengths;
         mark = both-first (marked set 1 public) (marked set 3 signature) marks;
         room = room .scratch-long;
@@ -101,7 +101,7 @@ module _ (set : Numbers) (public signature scratch : List ℕ) (room : Room set 
   pub z-asks : {scratch₁ : List ℕ} → length scratch₁ ≡ length scratch → ForZ set signature scratch₁
   z-asks kept =
       record {
-        room = record { signs = room .signs; scratch-long = kept ∙ room .scratch-long };
+        room = record { good = room .good; scratch-long = kept ∙ room .scratch-long };
         long = eqb-true _ _ (same-rest (length public) (publicBytes set) _ lengths);
         mark = both-second (marked set 1 public) (marked set 3 signature) marks;
       }
@@ -155,7 +155,7 @@ tested-asks {set} {public} {signature} message zr₁ scratch passed kept =
       tested = inputs-tested set public message signature passed;
       scratch =
           record {
-            room = record { signs = scratch .room .signs; scratch-long = kept ∙ scratch .room .scratch-long };
+            room = record { good = scratch .room .good; scratch-long = kept ∙ scratch .room .scratch-long };
             z-long = scratch .z-long;
             t-long = scratch .t-long;
             places = scratch .places;
@@ -171,7 +171,7 @@ pub scratch-i : {set : Numbers} {z : List ℤ} {zr t a w tc bytes positions : Li
 scratch-i {z = z} {zr} {t} {a} {w} {tc} {bytes} {positions} {signs} e ez er et ea ew ec eb ep es =
     subst (λ (s : Numbers). Scratch s z zr t a w tc bytes positions signs) (sym e)
     (record {
-      room = record { signs = record { good = setI-good; narrow = lit< tt }; scratch-long = er };
+      room = record { good = setI-good; scratch-long = er };
       z-long = ez;
       t-long = et;
       places = record { a-long = ea; w-long = ew; tc-long = ec; bytes-long = eb };

@@ -57,9 +57,9 @@ module _ {set : Numbers} {signature : List ℕ} {z : List ℤ} {zr : List ℕ} (
   pub small-z : Small (set .q) z₁ zr₁
   small-z =
       record {
-        small = asked .room .signs .good .q-small;
-        some = q-some (asked .room .signs .good);
-        within = rw e (z-within set (asked .room .signs .good) (zOf set signature) (asked .z-inside));
+        small = asked .room .good .q-small;
+        some = q-some (asked .room .good);
+        within = rw e (z-within set (asked .room .good) (zOf set signature) (asked .z-inside));
         long = ap length e ∙ zOf-length set signature ∙ sym (kept ∙ asked .room .scratch-long);
       }
 
@@ -167,10 +167,10 @@ module _ {set : Numbers} {public signature : List ℕ} {z : List ℤ} {zr t a w 
   pub hash-asks : {zr₁ : List ℕ} → zr₁ ≡ residues (set .q) (set .n) (integers (zOf set signature)) → ForHighs set public zr₁ t a w tc bytes positions signs
   hash-asks e =
       record {
-        good = asked .scratch .room .signs .good;
+        good = asked .scratch .room .good;
         public-long = asked .tested .public-long;
         t-inside = asked .tested .t-inside;
-        z-is = made-residues (asked .scratch .room .signs .good) (integers (zOf set signature)) e;
+        z-is = made-residues (asked .scratch .room .good) (integers (zOf set signature)) e;
         t-long = asked .scratch .t-long;
         places = asked .scratch .places;
         places-c = asked .scratch .places-c;
@@ -183,4 +183,4 @@ module _ {set : Numbers} {public signature : List ℕ} {z : List ℤ} {zr t a w 
   work-is message e f =
       rw (e, f)
       (ap (λ h. answer (hashTests (every fitsByte h) (challenge set h (messageDigest set message) (publicG set public)) (challengeOf set signature)))
-      (highs-check set (asked .scratch .room .signs .good) public (zOf set signature) (challengeOf set signature)))
+      (highs-check set (asked .scratch .room .good) public (zOf set signature) (challengeOf set signature)))

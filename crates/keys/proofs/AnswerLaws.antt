@@ -18,9 +18,8 @@ use Rattle.whole.specs.Refusal.{answer, after}
 use Rattle.whole.specs.RefusalLaws.{same-first, same-rest, answer-pass, answer-fail, answer-none, answer-first, output-kept}
 use Rattle.ring.specs.Largest.{sumPasses}
 use Rattle.sets.specs.declared.Numbers.{Numbers}
-use Rattle.sets.specs.SetI.{setI}
+use Rattle.sets.specs.SetI.{setI, setI-good}
 use Rattle.records.specs.Layout.{seedBytes, publicBytes, secretBytes}
-use Rattle.records.specs.Pieces.{setI-writes}
 use Rattle.records.specs.Secret.{inByteRange}
 use Rattle.keys.specs.declared.KeyAnswer.{KeyAnswer}
 use Rattle.keys.specs.declared.KeyAnswer.the-variants.{Done, Length, Secret, SumS, SumE}
@@ -80,7 +79,7 @@ module _ (set : Numbers) (s e seedA seedY public secret : List ℕ) where
       record {
         for-public =
             record {
-              writes = scratch .writes;
+              good = scratch .good;
               s-long = same-first (length s) (set .n) _ lengths;
               e-long = same-first (length e) (set .k * set .n) _ second;
               seedA-long = same-first (length seedA) seedBytes _ third;
@@ -125,7 +124,7 @@ done-number e f = sym f ∙ ap keyAnswerNumber e
 module _ {set : Numbers} (i : set ≡ setI) where
   pub scratch-i : {sr a t slots : List ℕ} → length sr ≡ 1024 → length a ≡ 1024 → length t ≡ 1024 → length slots ≡ 25 → Scratch set sr a t slots
   scratch-i sr a t slots =
-      rw i (record { writes = setI-writes; places = record { s-long = sr; a-long = a; t-long = t }; slots-long = slots })
+      rw i (record { good = setI-good; places = record { s-long = sr; a-long = a; t-long = t }; slots-long = slots })
 
   pub made-i : {n : ℕ} (s e seedA seedY public secret : List ℕ) {public₁ secret₁ : List ℕ}
       → (n ≡ answer (makeKeyTests set s e seedA seedY (length public) (length secret)))

@@ -48,13 +48,13 @@ module _ {set : Numbers} {s e seedA old sr a t : List ℕ} (asked : ForPublic se
   pub s-asks : Bytes (set .q) s sr
   s-asks =
       record {
-        small = asked .writes .good .q-small;
-        above = asked .writes .good .q-large;
+        small = asked .good .q-small;
+        above = asked .good .q-large;
         long = asked .s-long ∙ sym (asked .places .s-long);
       }
 
   pub mark-asks : Marks set 1 old
-  mark-asks = record { fits = omega (arith, asked .writes .digit-fits); room = omega (arith, asked .public-long) }
+  mark-asks = record { fits = omega (arith, asked .good .digit-fits); room = omega (arith, asked .public-long) }
 
   pub seed-asks : {packs : List ℕ} {at : ℕ} → length packs ≡ length old → at ≡ 2 + set .k * tBytes set → CopiesAt seedA packs at
   seed-asks kept at-is = record { room = omega (arith, at-is, asked .seedA-long, asked .public-long, kept) }
@@ -66,8 +66,8 @@ module _ {set : Numbers} {s e seedA old sr a t : List ℕ} (asked : ForPublic se
     pub put-asks : {marks : List ℕ} → length marks ≡ length old → ForPut set sr₁ e a t marks
     put-asks kept =
         record {
-          good = asked .writes .good;
-          s-is = made-residues (asked .writes .good) (signedBytes s) residues-are;
+          good = asked .good;
+          s-is = made-residues (asked .good) (signedBytes s) residues-are;
           e-long = asked .e-long;
           a-long = asked .places .a-long;
           t-long = asked .places .t-long;
@@ -84,15 +84,15 @@ module _ {set : Numbers} {s e seedA old sr a t : List ℕ} (asked : ForPublic se
         puts : PutsPublic set (allKeyT set s e seedA) seedA old
         puts =
             record {
-              writes = asked .writes;
+              good = asked .good;
               polynomials = allKeyT-length set s e seedA;
-              below = allKeyT-below set s e seedA (asked .writes .good);
+              below = allKeyT-below set s e seedA (asked .good);
               seed = asked .seedA-long;
               long = asked .public-long;
             }
 
         packed-are : packedUpto set (allA set seedA) sr₁ e (set .k) ≡ packedT set (allKeyT set s e seedA)
-        packed-are = ap (λ (x : List ℕ). packedUpto set (allA set seedA) x e (set .k)) residues-are ∙ packed-key set (asked .writes .good) s e seedA
+        packed-are = ap (λ (x : List ℕ). packedUpto set (allA set seedA) x e (set .k)) residues-are ∙ packed-key set (asked .good) s e seedA
 
 -- ---- the secret record
 
@@ -103,7 +103,7 @@ module _ {set : Numbers} {s e seedA seedY public old : List ℕ} (asked : ForSec
   pub g-asks : (g : List ℕ) → length g ≡ digestBytes → PutsSecret set s e seedA seedY g old
   g-asks g long =
       record {
-        writes = asked .writes;
+        good = asked .good;
         lengths = record { s-long = asked .s-long; e-long = asked .e-long; seedA-long = asked .seedA-long; seedY-long = asked .seedY-long; g-long = long };
         long = asked .secret-long;
       }
@@ -125,7 +125,7 @@ pub secret-asks : {set : Numbers} {s e seedA seedY public secret sr a t : List �
     → length public₁ ≡ length public → ForSecret set s e seedA seedY public₁ secret
 secret-asks public₁ asked kept =
     record {
-      writes = asked .for-public .writes;
+      good = asked .for-public .good;
       s-long = asked .for-public .s-long;
       e-long = asked .for-public .e-long;
       seedA-long = asked .for-public .seedA-long;

@@ -11,7 +11,6 @@ use Rattle.sampling.specs.declared.drawn.DrawA.{DrawA}
 use Rattle.sampling.specs.DrawA.{ValidA}
 use Rattle.sampling.specs.Residues.{Residues}
 use Rattle.records.specs.Layout.{seedBytes, publicBytes, secretBytes}
-use Rattle.records.specs.Pieces.{Writes}
 
 -- what `sum_of` asks: a and s modulo q, one polynomial of signed bytes, and a place for t
 pub record ForT (set : Numbers) (a sr e t : List ℕ) : Type 0 where
@@ -54,7 +53,7 @@ pub record Places (set : Numbers) (sr a t : List ℕ) : Type 0 where
 
 -- what writing the public record asks: the lengths, and the places
 pub record ForPublic (set : Numbers) (s e seedA public sr a t : List ℕ) : Type 0 where
-  pub writes : Writes set
+  pub good : Good set
   pub s-long : length s ≡ set .n
   pub e-long : length e ≡ set .k * set .n
   pub seedA-long : length seedA ≡ seedBytes
@@ -63,7 +62,7 @@ pub record ForPublic (set : Numbers) (s e seedA public sr a t : List ℕ) : Type
 
 -- what writing the secret record asks: the lengths, with the public record's
 pub record ForSecret (set : Numbers) (s e seedA seedY public secret : List ℕ) : Type 0 where
-  pub writes : Writes set
+  pub good : Good set
   pub s-long : length s ≡ set .n
   pub e-long : length e ≡ set .k * set .n
   pub seedA-long : length seedA ≡ seedBytes
@@ -84,6 +83,6 @@ pub record ForTests (set : Numbers) (slots : List ℕ) : Type 0 where
 
 -- what key making asks of its set and of the places that are lent to it
 pub record Scratch (set : Numbers) (sr a t slots : List ℕ) : Type 0 where
-  pub writes : Writes set
+  pub good : Good set
   pub places : Places set sr a t
   pub slots-long : length slots ≡ set .h

@@ -25,8 +25,8 @@ use native.Mathlib.Numerals.{add-one}
 use lib.Seq.{length-take-le}
 use Rattle.whole.specs.Table.{joined, joined-length}
 use Rattle.whole.specs.Rows.{row-fits}
+use Rattle.sets.specs.Good.{Good}
 use Rattle.records.specs.PublicLaws.{tOf-length, polynomial-length, polynomial-below, packed-t-length, packedT-length, tInRange-below}
-use Rattle.records.specs.Pieces.{Writes}
 
 -- ---- one t_i is read
 
@@ -328,11 +328,11 @@ module _ {s : Numbers} {t seedA old : List ℕ} (p : PutsPublic s t seedA old) w
       long₂ = length-append (mark s 1) (packedT s t) ∙ ap (λ (n : ℕ). 2 + n) packed-long
 
 -- values and a record that pass the tests
-pub write-puts : {s : Numbers} {t seedA public : List ℕ} {m r : Bool} → Writes s → m ≡ Lengths s (length t) (length seedA) (length public) → m ≡ true
+pub write-puts : {s : Numbers} {t seedA public : List ℕ} {m r : Bool} → Good s → m ≡ Lengths s (length t) (length seedA) (length public) → m ≡ true
     → r ≡ tInRange s t → r ≡ true → PutsPublic s t seedA public
 write-puts {s} {t} {seedA} {public} w e f g h =
     record {
-      writes = w;
+      good = w;
       polynomials = same-first (length t) (s .k * s .n) bytes (sym e ∙ f);
       below = tInRange-below s t (sym g ∙ h);
       seed = same-first (length seedA) seedBytes (eqb (length public) (publicBytes s)) passed;

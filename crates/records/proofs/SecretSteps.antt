@@ -15,7 +15,6 @@ use Rattle.whole.specs.Written.{Written, written-kept, written-front, written-m
 use Rattle.sets.specs.declared.Numbers.{Numbers}
 use Rattle.sets.specs.Good.{Good}
 use Rattle.records.specs.Layout.{mark, seedBytes, digestBytes, secretBytes}
-use Rattle.records.specs.Pieces.{Writes}
 use Rattle.records.specs.Secret.{secretRecord, sOf, allE, secretSeedA, secretSeedY, secretG, inByteRange, readSecretTests}
 use Rattle.records.specs.SecretPlaces.{SecretLengths, PutsSecret, PutsTail, TakesValues, TakesTail, TakesSecret}
 
@@ -255,12 +254,12 @@ put-is {set} {s} {e} {seedA} {seedY} {g} {old} {marks} {first} {second} {third} 
     regrouped = simp append-assoc
 
 -- values and a record that pass the tests
-pub write-puts : (set : Numbers) (s e seedA seedY g secret : List ℕ) {x : Bool} → Writes set
+pub write-puts : (set : Numbers) (s e seedA seedY g secret : List ℕ) {x : Bool} → Good set
     → x ≡ Lengths set (length s) (length e) (length seedA) (length seedY) (length g) (length secret) → x ≡ true
     → PutsSecret set s e seedA seedY g secret
 write-puts set s e seedA seedY g secret w h f =
     record {
-      writes = w;
+      good = w;
       lengths = lengths-are set s e seedA seedY g (same-rest (length secret) (secretBytes set) outputs passed);
       long = same-first (length secret) (secretBytes set) outputs passed;
     }

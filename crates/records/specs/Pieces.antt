@@ -3,9 +3,6 @@ use mathlib.Core.List.{List}
 use Prim.Native.Nat.{ℕ, _+_, _*_, _≤_, _<_}
 use lib.ListN.{length}
 use Rattle.sets.specs.declared.Numbers.{Numbers}
-use Rattle.sets.specs.Good.{Good}
-use Rattle.sets.specs.SetI.{setI, setI-good}
-use lib.Dec.{lit<}
 
 -- what `copy_in` asks: every byte has a place
 pub record Copies (from to : List ℕ) : Type 0 where
@@ -23,11 +20,3 @@ pub record CopiesOut (from : List ℕ) (at : ℕ) (to : List ℕ) : Type 0 where
 pub record Marks (s : Numbers) (j : ℕ) (out : List ℕ) : Type 0 where
   pub fits : 16 * s .digit + j < 256
   pub room : 2 ≤ length out
-
--- what writing a whole record asks of its set: the second byte of each mark is a byte
-pub record Writes (s : Numbers) : Type 0 where
-  pub good : Good s
-  pub digit-fits : s .digit < 16
-
-pub setI-writes : Writes setI
-setI-writes = record { good = setI-good; digit-fits = lit< tt }

@@ -7,7 +7,6 @@ use Rattle.whole.specs.Below.{Below}
 use Rattle.sets.specs.declared.Numbers.{Numbers}
 use Rattle.sets.specs.Good.{Good}
 use Rattle.records.specs.Layout.{seedBytes, publicBytes}
-use Rattle.records.specs.Pieces.{Writes}
 
 -- what `t_start` asks: one of t_1..t_k, or the place after them
 pub record StartsT (s : Numbers) (i : ℕ) : Type 0 where
@@ -55,7 +54,7 @@ pub record PacksAllT (s : Numbers) (t public : List ℕ) : Type 0 where
 
 -- what writing a record from tested values asks
 pub record PutsPublic (s : Numbers) (t seedA public : List ℕ) : Type 0 where
-  pub writes : Writes s
+  pub good : Good s
   pub polynomials : length t ≡ s .k * s .n
   pub below : Below (s .q) t
   pub seed : length seedA ≡ seedBytes

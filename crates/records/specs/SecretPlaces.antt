@@ -6,7 +6,6 @@ use lib.ListN.{length}
 use Rattle.sets.specs.declared.Numbers.{Numbers}
 use Rattle.sets.specs.Good.{Good}
 use Rattle.records.specs.Layout.{seedBytes, digestBytes, secretBytes}
-use Rattle.records.specs.Pieces.{Writes}
 
 -- the lengths of a record's values
 pub record SecretLengths (set : Numbers) (s e seedA seedY g : List ℕ) : Type 0 where
@@ -18,7 +17,7 @@ pub record SecretLengths (set : Numbers) (s e seedA seedY g : List ℕ) : Type 0
 
 -- what writing a record from tested values asks
 pub record PutsSecret (set : Numbers) (s e seedA seedY g secret : List ℕ) : Type 0 where
-  pub writes : Writes set
+  pub good : Good set
   pub lengths : SecretLengths set s e seedA seedY g
   pub long : length secret ≡ secretBytes set
 

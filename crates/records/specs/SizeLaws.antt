@@ -3,13 +3,13 @@
 use mathlib.Core.Path.{_≡_}
 use mathlib.Core.List.{List}
 use Prim.Native.Nat.{ℕ, _+_, _*_, _≤_, _<_}
-use native.Mathlib.Nat.{mul-le-mul, mul-le-mul-left, mul-comm}
+use native.Mathlib.Nat.{mul-le-mul, mul-le-mul-left, mul-comm, le-of-lt}
 use native.Mathlib.Omega.{arith}
 use lib.ListN.{length}
 use Rattle.whole.specs.Rows.{row-fits}
 use Rattle.sets.specs.declared.Numbers.{Numbers}
 use Rattle.sets.specs.Good.{Good}
-use Rattle.sets.specs.GoodLaws.{n-few}
+use Rattle.sets.specs.GoodLaws.{n-few, z-narrow}
 use Rattle.records.specs.Layout.{tBytes, zBytes, publicBytes}
 
 module _ {s : Numbers} (good : Good s) where
@@ -17,7 +17,7 @@ module _ {s : Numbers} (good : Good s) where
   t-bits-few = mul-le-mul (good .t-word) (n-few good)
 
   pub z-bits-few : s .«z_bits» * s .n ≤ 2097152
-  z-bits-few = mul-le-mul (good .z-word) (n-few good)
+  z-bits-few = mul-le-mul (le-of-lt (z-narrow good)) (n-few good)
 
   pub zBytes-few : {len : ℕ} → len ≡ zBytes s → len ≤ 262144
   zBytes-few e = omega (arith, z-bits-few)

@@ -15,7 +15,6 @@ ghost use Rattle.records.specs.Answers.{keyRecordNumber};
 ghost use Rattle.records.specs.Layout.{seedBytes, tBytes, publicBytes};
 ghost use Rattle.records.specs.Public.{publicRecord, packedT, tOf, allT, seedAOf, tInRange, publicTests, readPublicTests, writePublicTests};
 ghost use Rattle.records.specs.PublicPlaces.{StartsT, ReadsT, PacksT, ScansT, TestsPublic, ReadsAllT, PacksAllT, PutsPublic, TakesPublic};
-ghost use Rattle.records.specs.Pieces.{Writes};
 
 // The bytes of one packed t_i.
 pub fn t_bytes(set: Numbers) -> usize
@@ -184,7 +183,7 @@ fn put(set: Numbers, t: &[u32], seed_a: &[u8], public: &mut [u8])
 
 // Tests t, seed_a and the record's length, and writes the record.
 pub fn write(set: Numbers, t: &[u32], seed_a: &[u8], public: &mut [u8]) -> KeyRecord
-    requires { ⌜ Writes set ⌝ }
+    requires { ⌜ Good set ⌝ }
     ensures number { λ r. ⌜ keyRecordNumber r ≡ answer (writePublicTests set (now (t .entry)) (now («seed_a» .entry)) (length (now (public .entry)))) ⌝ }
     ensures written { λ _. ⌜ now (public .exit) ≡ after (answer (writePublicTests set (now (t .entry)) (now («seed_a» .entry)) (length (now (public .entry))))) (publicRecord set (now (t .entry)) (now («seed_a» .entry))) (now (public .entry)) ⌝ }
 {

@@ -14,7 +14,6 @@ ghost use Rattle.whole.specs.Refusal.{answer, after};
 ghost use Rattle.sets.specs.Good.{Good};
 ghost use Rattle.records.specs.Answers.{keyRecordNumber};
 ghost use Rattle.records.specs.Layout.{seedBytes, digestBytes, secretBytes};
-ghost use Rattle.records.specs.Pieces.{Writes};
 ghost use Rattle.records.specs.Secret.{secretRecord, sOf, allE, secretSeedA, secretSeedY, secretG, inByteRange, secretTests, readSecretTests, writeSecretTests};
 ghost use Rattle.records.specs.SecretPlaces.{PutsSecret, PutsTail, TestsValues, TakesValues, TakesTail};
 
@@ -153,7 +152,7 @@ pub fn write(
     g: &[u8],
     secret: &mut [u8],
 ) -> KeyRecord
-    requires { ⌜ Writes set ⌝ }
+    requires { ⌜ Good set ⌝ }
     ensures number { λ r. ⌜ keyRecordNumber r ≡ answer (writeSecretTests set (now (s .entry)) (now (e .entry)) (now («seed_a» .entry)) (now («seed_y» .entry)) (now (g .entry)) (length (now (secret .entry)))) ⌝ }
     ensures written { λ _. ⌜ now (secret .exit) ≡ after (answer (writeSecretTests set (now (s .entry)) (now (e .entry)) (now («seed_a» .entry)) (now («seed_y» .entry)) (now (g .entry)) (length (now (secret .entry))))) (secretRecord set (now (s .entry)) (now (e .entry)) (now («seed_a» .entry)) (now («seed_y» .entry)) (now (g .entry))) (now (secret .entry)) ⌝ }
 {

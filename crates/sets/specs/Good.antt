@@ -35,13 +35,14 @@ pub record Good (s : Numbers) : Type 0 where
   pub z-some : s .s ≤ s .b
   pub z-fits : s .b - s .s < 2 ^ (s .«z_bits» - 1)
   pub z-byte : 8 ≤ s .«z_bits»
-  pub z-word : s .«z_bits» ≤ 32
   -- sampling: a candidate of 3 bytes holds y
   pub y-bytes : s .«z_bits» ≤ 24
   pub z-whole : s .«z_bits» * s .n % 8 ≡ 0
   -- sampling: h positions can be drawn, from 256 candidates
   pub h-inside : s .h ≤ s .n
   pub h-drawn : s .h ≤ 256
+  -- ring: h signed bytes, each by +1 or −1, sum to a number from −q to q
+  pub c-small : 128 * s .h ≤ s .q
   -- rounding: the bounds fit beside a residue, and a step of 2^d has a half
   pub e-fits : s .e < 2 ^ 31
   pub d-some : 0 < s .d

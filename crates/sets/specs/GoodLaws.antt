@@ -1,9 +1,10 @@
 -- What the conditions on a set's numbers give.
 --     q-some                   there are residues
 --     n-some, n-few            how many coefficients a polynomial has at least and at most
+--     z-narrow, y-small        z and y + s c fit a word
 --     row-few, row-inside      how many k polynomials in a row have at most, so that every place among them fits a word
 -- Assumes nothing.
-use Prim.Native.Nat.{ℕ, _+_, _*_, _≤_, _<_}
+use Prim.Native.Nat.{ℕ, _+_, _*_, _≤_, _<_, _^_}
 use native.Mathlib.Nat.{mul-le-mul}
 use native.Mathlib.Omega.{arith}
 use lib.Pow.{pow-pos, pow-mono}
@@ -20,6 +21,16 @@ module _ {set : Numbers} (good : Good set) where
 
   pub n-few : set .n ≤ 65536
   n-few = rw (good .n-power) (pow-mono (good .position-fits))
+
+  -- 2^z_bits fits a word of 32 bits, and z one with a sign
+  pub z-narrow : set .«z_bits» < 32
+  z-narrow = omega (arith, good .y-bytes)
+
+  -- and so is y + s c
+  pub y-small : set .b ≤ 2 ^ 29
+  y-small =
+      let few : 2 ^ set .«z_bits» ≤ 2 ^ 24 = pow-mono (good .y-bytes) in
+      omega (arith, good .y-fits)
 
   pub row-few : set .k * set .n ≤ 16711680
   row-few = mul-le-mul (good .k-few) n-few

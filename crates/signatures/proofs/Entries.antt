@@ -148,7 +148,7 @@ module _ (s : Numbers) (signature : List ℕ) (z : List ℤ) (c′ : List ℕ) w
       unfolding signatureTests frontTests
       take-asked {old} room f =
           record {
-            signs = room .signs;
+            good = room .good;
             signature-long = eqb-true _ _ first;
             z-long = z-long;
             c-long = c-long;

@@ -21,23 +21,24 @@ use Rattle.packing.specs.Digits.{bytesFor, packed, unpacked, Packs, Unpacks}
 use Rattle.packing.specs.Laws.{packed-length, unpacked-length, unpacked-below}
 use Rattle.packing.specs.Twos.{ToBits, FromBits}
 use Rattle.sets.specs.declared.Numbers.{Numbers}
-use Rattle.sets.specs.GoodLaws.{n-few}
+use Rattle.sets.specs.GoodLaws.{n-few, z-narrow}
+use Rattle.sets.specs.Good.{Good}
 use Rattle.records.specs.Layout.{mark, marked, stretch, zBytes, signatureBytes}
 use Rattle.signatures.specs.Signature.{signatureRecord, zOf, challengeOf, zInRange}
 use Rattle.signatures.specs.Laws.{zInRange-inside}
-use Rattle.signatures.specs.Parts.{Signs, ReadsBits, Takes, WritesPieces, WritesChecked, zBitsOf, frontTests, signatureTests}
+use Rattle.signatures.specs.Parts.{ReadsBits, Takes, WritesPieces, WritesChecked, zBitsOf, frontTests, signatureTests}
 
 -- ---- the bits of z
 
-pub z-wide : {s : Numbers} → Signs s → 0 < s .«z_bits»
-z-wide signs = omega (arith, signs .good .z-byte)
+pub z-wide : {s : Numbers} → Good s → 0 < s .«z_bits»
+z-wide good = omega (arith, good .z-byte)
 
 module _ {s : Numbers} {bits signature : List ℕ} {len : ℕ} (r : ReadsBits s signature bits) (e : len ≡ zBytes s) where
   pub bits-unpack : Unpacks (s .«z_bits») (take (2 + len - 2) (drop 2 signature)) bits
   bits-unpack =
       record {
-        wide = r .room .signs .good .z-byte;
-        narrow = r .room .signs .good .z-word;
+        wide = r .room .good .z-byte;
+        narrow = omega (arith, z-narrow (r .room .good));
         exact = rw (add-sub-cancel-left 2 len) (part-length 2 len signature (omega (arith, r .signature-long))) ∙ e ∙ ap (bytesFor (s .«z_bits»)) (sym (r .room .scratch-long));
       }
 
@@ -55,11 +56,11 @@ module _ (s : Numbers) (signature : List ℕ) {bits : List ℕ} (e : bits ≡ zB
   bits-long = rw e (unpacked-length (s .«z_bits») (s .n) _)
 
   -- z of its bits
-  pub bits-asked : {z : List ℤ} → Signs s → length z ≡ s .n → FromBits (s .«z_bits») bits z
-  bits-asked signs l =
+  pub bits-asked : {z : List ℤ} → Good s → length z ≡ s .n → FromBits (s .«z_bits») bits z
+  bits-asked good l =
       record {
-        wide = z-wide signs;
-        narrow = signs .narrow;
+        wide = z-wide good;
+        narrow = z-narrow good;
         below = bits-below;
         exact = l ∙ sym bits-long;
       }
@@ -129,10 +130,10 @@ module _ {s : Numbers} {bits c′ old : List ℕ} (p : WritesPieces s bits c′ 
     pub pack-asked : Packs (s .«z_bits») bits (take (length one - 2) (drop 2 one))
     pack-asked =
         record {
-          wide = p .signs .good .z-byte;
-          narrow = p .signs .good .z-word;
+          wide = p .good .z-byte;
+          narrow = omega (arith, z-narrow (p .good));
           below = p .bits-below;
-          few = omega (arith, p .bits-long, n-few (p .signs .good));
+          few = omega (arith, p .bits-long, n-few (p .good));
           room = rw (lent-rest, p .bits-long) (omega (arith, length-drop 2 one, written-length w, p .signature-long));
         }
 
@@ -159,9 +160,9 @@ module _ {s : Numbers} {z : List ℤ} {c′ signature scratch : List ℕ} (p : W
   pub z-asked : ToBits (s .«z_bits») z scratch
   z-asked =
       record {
-        wide = z-wide (p .room .signs);
-        narrow = p .room .signs .narrow;
-        inside = zInRange-inside s z (p .room .signs .good) (p .z-inside);
+        wide = z-wide (p .room .good);
+        narrow = z-narrow (p .room .good);
+        inside = zInRange-inside s z (p .room .good) (p .z-inside);
         exact = p .room .scratch-long ∙ sym (p .z-long);
       }
 
@@ -169,7 +170,7 @@ module _ {s : Numbers} {z : List ℤ} {c′ signature scratch : List ℕ} (p : W
     pub pieces-asked : WritesPieces s bits c′ signature
     pieces-asked =
         record {
-          signs = p .room .signs;
+          good = p .room .good;
           bits-long = rw e (length-map z (twos (s .«z_bits»)) ∙ p .z-long);
           bits-below = rw e (twos-all-below (s .«z_bits») z);
           c-long = p .c-long;

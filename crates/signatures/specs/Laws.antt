@@ -7,7 +7,6 @@ use mathlib.Core.List.{List, _++_, map}
 use Prim.Native.Nat.{ℕ, _+_, _*_, _-_}
 use native.Mathlib.Nat.{le-of-eq}
 use native.Mathlib.Omega.{arith}
-use lib.Dec.{lit<}
 use lib.IntN.{ℤ, pos, natAbs}
 use lib.ListN.{length, getD, length-append, length-map}
 use lib.Seq.{take-all}
@@ -27,7 +26,7 @@ use Rattle.sets.specs.Good.{Good}
 use Rattle.sets.specs.SetI.{setI, setI-good}
 use Rattle.records.specs.Layout.{mark, marked, stretch, seedBytes, zBytes, signatureBytes}
 use Rattle.signatures.specs.Signature.{signatureRecord, zOf, challengeOf, zInRange, readSignatureTests}
-use Rattle.signatures.specs.Parts.{Signs, Room}
+use Rattle.signatures.specs.Parts.{Room}
 use Rattle.records.specs.PublicLaws.{marked-mark, marked-front}
 
 -- ---- the range of z
@@ -143,9 +142,5 @@ signature-read-again s signature zLength cLength good bytes e =
 
 -- ---- set I
 
--- its z is an i32
-pub setI-signs : Signs setI
-setI-signs = record { good = setI-good; narrow = lit< tt }
-
 pub room-i : {s : Numbers} {scratch : List ℕ} → s ≡ setI → length scratch ≡ setI .n → Room s scratch
-room-i e l = rw e (record { signs = setI-signs; scratch-long = l })
+room-i e l = rw e (record { good = setI-good; scratch-long = l })

@@ -4,7 +4,7 @@
 use mathlib.Core.Bool.{true}
 use mathlib.Core.Path.{_≡_}
 use mathlib.Core.List.{List, [], _∷_}
-use Prim.Native.Nat.{ℕ, _^_, _<_}
+use Prim.Native.Nat.{ℕ, _^_}
 use lib.Dec.{eqb}
 use lib.IntN.{ℤ}
 use lib.ListN.{length}
@@ -36,15 +36,9 @@ signatureTests s signature =
 
 -- ---- what the code asks
 
--- a good set in whose records a z is an i32
-pub record Signs (s : Numbers) : Type 0 where
-  pub good : Good s
-  -- 2^z_bits fits a u32, and a z an i32
-  pub narrow : s .«z_bits» < 32
-
 -- room for the bits of z
 pub record Room (s : Numbers) (scratch : List ℕ) : Type 0 where
-  pub signs : Signs s
+  pub good : Good s
   pub scratch-long : length scratch ≡ s .n
 
 -- what reading the bits of z asks
@@ -59,7 +53,7 @@ pub record UnpacksZ (s : Numbers) (signature : List ℕ) (z : List ℤ) (scratch
 
 -- what taking the values asks of a record that was tested and of the bits of its z
 pub record Takes (s : Numbers) (signature : List ℕ) (z : List ℤ) (c′ bits : List ℕ) : Type 0 where
-  pub signs : Signs s
+  pub good : Good s
   pub signature-long : length signature ≡ signatureBytes s
   pub z-long : length z ≡ s .n
   pub c-long : length c′ ≡ seedBytes
@@ -67,7 +61,7 @@ pub record Takes (s : Numbers) (signature : List ℕ) (z : List ℤ) (c′ bits 
 
 -- what writing the pieces asks, with the bits of z
 pub record WritesPieces (s : Numbers) (bits c′ signature : List ℕ) : Type 0 where
-  pub signs : Signs s
+  pub good : Good s
   pub bits-long : length bits ≡ s .n
   pub bits-below : Below (2 ^ s .«z_bits») bits
   pub c-long : length c′ ≡ seedBytes

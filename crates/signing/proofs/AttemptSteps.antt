@@ -38,21 +38,21 @@ rowPasses set s e y v c =
 
 module _ {set : Numbers} {s e v ps₀ : List ℕ} {y ss₀ z₀ : List ℤ} (r : Responds set s e y v ps₀ ss₀ z₀) where
   pub respond-draws : DrawEnc set (length ps₀) (length ss₀)
-  respond-draws = record { good = r .fitting .good; long = r .ps-long; paired = r .ss-long }
+  respond-draws = record { good = r .good; long = r .ps-long; paired = r .ss-long }
 
   module _ (c′ : List ℕ) {ps : List ℕ} {ss : List ℤ} (d : AreDrawn (encOf set c′) ps ss) where
     terms : Terms set ps ss
     terms =
         rw (d .places-are, d .signs-are)
         (record {
-          signed = encOf-signed set (r .fitting .good) c′;
-          few = length-map (encOf set c′) (λ (t : Drawn). t .position) ∙ encOf-length set (r .fitting .good) c′;
+          signed = encOf-signed set (r .good) c′;
+          few = length-map (encOf set c′) (λ (t : Drawn). t .position) ∙ encOf-length set (r .good) c′;
         })
 
     pub respond-makes : MakesZ set s y ps ss z₀
     respond-makes =
         record {
-          fitting = r .fitting;
+          good = r .good;
           s-long = r .s-long;
           y-long = r .y-long;
           y-within = r .y-within;
@@ -63,7 +63,7 @@ module _ {set : Numbers} {s e v ps₀ : List ℕ} {y ss₀ z₀ : List ℤ} (r :
     pub respond-tests : TestsW set e v ps ss y
     respond-tests =
         record {
-          fitting = r .fitting;
+          good = r .good;
           e-long = r .e-long;
           v-long = r .v-long;
           v-below = r .v-below;
@@ -95,7 +95,7 @@ module _ {set : Numbers} {s e : List ℕ} (sec : Secrets set s e) {y₀ : List �
   pub attempt-commits : Commits set y₀ yr a v₀ bytes
   attempt-commits =
       record {
-        good = sec .fitting .good;
+        good = sec .good;
         y-long = places .y-long;
         yr-long = places .yr-long;
         a-long = places .a-long;
@@ -118,13 +118,13 @@ module _ {set : Numbers} {s e : List ℕ} (sec : Secrets set s e) {y₀ : List �
       pub attempt-responds : Responds set s e y w ps ss z₀
       attempt-responds =
           record {
-            fitting = sec .fitting;
+            good = sec .good;
             s-long = sec .s-long;
             e-long = sec .e-long;
-            y-long = ap length y-is ∙ yOf-length set (sec .fitting .good) rand counter;
-            y-within = rw y-is (yOf-within set (sec .fitting .good) rand counter);
+            y-long = ap length y-is ∙ yOf-length set (sec .good) rand counter;
+            y-within = rw y-is (yOf-within set (sec .good) rand counter);
             v-long = ap length w-is ∙ v-all-length set seedA (yOf set rand counter);
-            v-below = rw w-is (v-all-below set (sec .fitting .good) seedA (yOf set rand counter));
+            v-below = rw w-is (v-all-below set (sec .good) seedA (yOf set rand counter));
             ps-long = places .ps-long;
             ss-long = places .ss-long;
             z-long = places .z-long;
@@ -134,7 +134,7 @@ module _ {set : Numbers} {s e : List ℕ} (sec : Secrets set s e) {y₀ : List �
       hash =
           c-is
           ∙ ap (λ (t : Sponge). squeezed 32 (absorbed (absorbed t digest) g)) state-is
-          ∙ challenge-squeezed set (sec .fitting .good) (highsOf set (vOf set seedA (yOf set rand counter))) (map (twos 8) (highsOf set (vOf set seedA (yOf set rand counter)))) digest g refl
+          ∙ challenge-squeezed set (sec .good) (highsOf set (vOf set seedA (yOf set rand counter))) (map (twos 8) (highsOf set (vOf set seedA (yOf set rand counter)))) digest g refl
           (twos-all-below 8 (highsOf set (vOf set seedA (yOf set rand counter)))) (below-bytes digest digest-bytes) (below-bytes g g-bytes)
 
       same-tests : rowPasses set s e y w (encOf set c) ≡ attemptPasses set (keyWith s e seedA g) (yOf set rand counter) (vOf set seedA (yOf set rand counter)) (encOf set c)

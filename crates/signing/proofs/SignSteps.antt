@@ -4,7 +4,7 @@ use mathlib.Core.Bool.{Bool, true, false, _&&_, true≢false}
 use mathlib.Core.List.{List}
 use Prim.Native.Nat.{ℕ, zero, suc, _+_, _*_, _-_, _≤_}
 use native.Mathlib.Omega.{arith}
-use lib.Dec.{eqb, leb, lit<, lit≤}
+use lib.Dec.{eqb, leb}
 use lib.IntN.{ℤ}
 use lib.ListN.{length, take, drop}
 use borrow.Author.Tests.{eqb-true, leb-true}
@@ -24,7 +24,7 @@ use Rattle.signing.specs.Search.{Found, found, none, overflow, search}
 use Rattle.signing.specs.SearchLaws.{found-smallest}
 use Rattle.signing.specs.Sign.{keyOf, signTests, signSearch, foundNumber, foundCounter, foundSignature, signNumber, signCounter, signSignature}
 use Rattle.signing.specs.Answers.{foundOf, keyWith}
-use Rattle.signing.specs.Asks.{Fitting, Places, Secrets, SearchesKey, Signs}
+use Rattle.signing.specs.Asks.{Places, Secrets, SearchesKey, Signs}
 use Rattle.signing.proofs.InputSteps.{s-lent, e-lent, s-long, e-long}
 use Rattle.signing.specs.declared.search.Searched.the-variants as searched
 
@@ -45,7 +45,7 @@ found-inside set key digest rand budget counter z c′ e =
 
 module _ {set : Numbers} {secret : List ℕ} {budget : ℕ} (k : SearchesKey set secret budget) {at seeds : ℕ} (a : at ≡ 2 + set .n) (b : seeds ≡ 2 + set .n + set .k * set .n) where
   pub key-secrets : Secrets set (take (at - 2) (drop 2 secret)) (take (seeds - at) (drop at secret))
-  key-secrets = record { fitting = k .fitting; s-long = s-long set secret (k .long) a b; e-long = e-long set secret (k .long) a b }
+  key-secrets = record { good = k .good; s-long = s-long set secret (k .long) a b; e-long = e-long set secret (k .long) a b }
 
   pub key-is : {y g end : ℕ} → y ≡ 2 + set .n + set .k * set .n + seedBytes → g ≡ 2 + set .n + set .k * set .n + seedBytes + seedBytes → end ≡ secretBytes set
       → keyWith (take (at - 2) (drop 2 secret)) (take (seeds - at) (drop at secret)) (take (y - seeds) (drop seeds secret)) (take (end - g) (drop g secret)) ≡ keyOf set secret
@@ -137,12 +137,9 @@ module _ (set : Numbers) (secret : List ℕ) (message r budget signature : ℕ) 
 
 -- ---- set I
 
-fitting-i : Fitting setI
-fitting-i = record { good = setI-good; z-narrow = lit< tt; y-small = lit≤ tt; c-small = lit≤ tt }
-
 module _ {set : Numbers} (e : set ≡ setI) where
   pub signs-i : {slots digest rand : List ℕ} → length slots ≡ 25 → length digest ≡ 40 → length rand ≡ 32 → Signs set slots digest rand
-  signs-i s d r = rw e (record { fitting = fitting-i; slots-long = s; digest-long = d; rand-long = r })
+  signs-i s d r = rw e (record { good = setI-good; slots-long = s; digest-long = d; rand-long = r })
 
   pub places-i : {y : List ℤ} {yr a v bytes ps : List ℕ} {ss z : List ℤ} {c′ : List ℕ}
       → length y ≡ 1024 → length yr ≡ 1024 → length a ≡ 1024 → length v ≡ 4096 → length bytes ≡ 1024 → length ps ≡ 25 → length ss ≡ 25 → length z ≡ 1024 → length c′ ≡ 32

@@ -26,7 +26,7 @@ use Rattle.ring.specs.Sparse.{sparse, turns, mul-sparse, Sign, sign-size}
 use Rattle.ring.specs.Asks.{ByteProduct, WithSmall, Summands}
 use Rattle.sets.specs.declared.Numbers.{Numbers}
 use Rattle.sets.specs.Good.{Good}
-use Rattle.sets.specs.GoodLaws.{q-some}
+use Rattle.sets.specs.GoodLaws.{q-some, y-small}
 use Rattle.records.specs.Layout.{polynomial}
 use Rattle.records.specs.PublicLaws.{polynomial-length, polynomial-below}
 use Rattle.signing.specs.Attempt.{wPasses}
@@ -76,7 +76,7 @@ module _ {set : Numbers} {ps : List ℕ} {ss : List ℤ} (t : Terms set ps ss) (
 
 module _ {set : Numbers} {s : List ℕ} {y : List ℤ} {ps : List ℕ} {ss z : List ℤ} (m : MakesZ set s y ps ss z) (bytes : (i : ℕ) → getD s i 0 < 2 ^ 8) where
   pub z-product : ByteProduct s ps ss z
-  z-product = byte-product (m .terms) s bytes (m .fitting .good) (m .s-long) (m .z-long)
+  z-product = byte-product (m .terms) s bytes (m .good) (m .s-long) (m .z-long)
 
   module _ {sc : List ℤ} (e : sc ≡ table (length z) (mul (length z) (signedBytes s) (sparse ps ss))) where
     sc-is : sc ≡ table (set .n) (mul (set .n) (signedBytes s) (sparse ps ss))
@@ -91,8 +91,8 @@ module _ {set : Numbers} {s : List ℕ} {y : List ℤ} {ps : List ℕ} {ss z : L
           y-within =
               rw sc-is
               (within-table (2 ^ 29) (set .n) (mul (set .n) (signedBytes s) (sparse ps ss))
-              (λ k l. omega (arith, product-size (m .terms) s bytes k l, m .fitting .good .h-drawn)));
-          x-within = within-more y (m .fitting .y-small) (m .y-within);
+              (λ k l. omega (arith, product-size (m .terms) s bytes k l, m .good .h-drawn)));
+          x-within = within-more y (y-small (m .good)) (m .y-within);
           long = m .y-long ∙ sym sc-long;
         }
 
@@ -111,7 +111,7 @@ module _ {set : Numbers} {s : List ℕ} {y : List ℤ} {ps : List ℕ} {ss z : L
 
 module _ {set : Numbers} {e v ps : List ℕ} {ss ec : List ℤ} (t : TestsOneW set e v ps ss ec) (bytes : (i : ℕ) → getD e i 0 < 2 ^ 8) where
   pub w-product : ByteProduct e ps ss ec
-  w-product = byte-product (t .terms) e bytes (t .fitting .good) (t .e-long) (t .ec-long)
+  w-product = byte-product (t .terms) e bytes (t .good) (t .e-long) (t .ec-long)
 
   module _ {new : List ℤ} (f : new ≡ table (length ec) (mul (length ec) (signedBytes e) (sparse ps ss))) where
     new-is : new ≡ table (set .n) (mul (set .n) (signedBytes e) (sparse ps ss))
@@ -122,12 +122,12 @@ module _ {set : Numbers} {e v ps : List ℕ} {ss ec : List ℤ} (t : TestsOneW s
         record {
           numbers =
               record {
-                small = t .fitting .good .q-small;
-                some = q-some (t .fitting .good);
+                small = t .good .q-small;
+                some = q-some (t .good);
                 within =
                     rw new-is
                     (within-table (set .q) (set .n) (mul (set .n) (signedBytes e) (sparse ps ss))
-                    (λ k l. omega (arith, product-size (t .terms) e bytes k l, t .fitting .c-small)));
+                    (λ k l. omega (arith, product-size (t .terms) e bytes k l, t .good .c-small)));
                 long = ap length new-is ∙ length-table (set .n) (mul (set .n) (signedBytes e) (sparse ps ss)) ∙ sym (t .v-long);
               };
           below = t .v-below;
@@ -148,20 +148,20 @@ module _ {set : Numbers} {e v ps : List ℕ} {ss ec : List ℤ} (t : TestsOneW s
 
       w-below : Below (set .q) w
       unfolding wOne
-      w-below = rw w-is (residues-below (set .q) (set .n) (λ j. naturals v j -ℤ mul (set .n) (signedBytes e) (sparse ps ss) j) (q-some (t .fitting .good)))
+      w-below = rw w-is (residues-below (set .q) (set .n) (λ j. naturals v j -ℤ mul (set .n) (signedBytes e) (sparse ps ss) j) (q-some (t .good)))
 
       pub w-low : LowTests (set .q) (set .d) (set .e) w
       w-low =
           record {
             below = w-below;
-            small = t .fitting .good .q-small;
-            step = t .fitting .good .d-some;
-            fits = t .fitting .good .d-fits;
-            room = t .fitting .good .e-fits;
+            small = t .good .q-small;
+            step = t .good .d-some;
+            fits = t .good .d-fits;
+            room = t .good .e-fits;
           }
 
       pub w-sized : SizeTests (set .q) (set .e) w
-      w-sized = record { below = w-below; small = t .fitting .good .q-small; room = t .fitting .good .e-fits }
+      w-sized = record { below = w-below; small = t .good .q-small; room = t .good .e-fits }
 
       -- the low parts pass, and the sizes decide; or they do not
       module _ {low : Bool} (h : low ≡ every (λ x. lowPasses (set .q) (set .d) (set .e) (pos x)) w) where
@@ -207,7 +207,7 @@ module _ {set : Numbers} {e old ps : List ℕ} {ss before : List ℤ} (t : Tests
     testing-asks l =
         rw (row-lent (set .n) i e, v-lent)
         (record {
-          fitting = t .fitting;
+          good = t .good;
           e-long = polynomial-length (set .n) (set .k) i e (t .e-long) l;
           v-long = polynomial-length (set .n) (set .k) i old (t .v-long) l;
           v-below = polynomial-below (set .q) (set .n) i old (t .v-below);

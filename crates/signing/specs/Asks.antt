@@ -3,7 +3,7 @@
 -- Assumes nothing: these are definitions.
 use mathlib.Core.Path.{_≡_}
 use mathlib.Core.List.{List}
-use Prim.Native.Nat.{ℕ, _*_, _^_, _≤_, _<_}
+use Prim.Native.Nat.{ℕ, _*_, _≤_}
 use lib.IntN.{ℤ}
 use lib.ListN.{length}
 use Rattle.whole.specs.Below.{Below, Within}
@@ -12,16 +12,6 @@ use Rattle.sets.specs.declared.Numbers.{Numbers}
 use Rattle.sets.specs.Good.{Good}
 use Rattle.sets.specs.Limits.{budgetLimit}
 use Rattle.records.specs.Layout.{seedBytes, digestBytes, secretBytes, signatureBytes}
-
--- a good set whose sums fit the machine's words
-pub record Fitting (set : Numbers) : Type 0 where
-  pub good : Good set
-  -- z is a signed word of 32 bits
-  pub z-narrow : set .«z_bits» < 32
-  -- and so is y + s c
-  pub y-small : set .b ≤ 2 ^ 29
-  -- h signed bytes, each by +1 or −1, sum to a number from −q to q
-  pub c-small : 128 * set .h ≤ set .q
 
 -- the k products v_1..v_k: y's residues, the place for one a_i and the places for the products
 pub record Multiplies (set : Numbers) (yr a v : List ℕ) : Type 0 where
@@ -45,7 +35,7 @@ pub record Terms (set : Numbers) (ps : List ℕ) (ss : List ℤ) : Type 0 where
 
 -- z: s, y, c and the place for z
 pub record MakesZ (set : Numbers) (s : List ℕ) (y : List ℤ) (ps : List ℕ) (ss : List ℤ) (z : List ℤ) : Type 0 where
-  pub fitting : Fitting set
+  pub good : Good set
   pub s-long : length s ≡ set .n
   pub y-long : length y ≡ set .n
   pub y-within : Within (set .b) y
@@ -54,7 +44,7 @@ pub record MakesZ (set : Numbers) (s : List ℕ) (y : List ℤ) (ps : List ℕ) 
 
 -- the tests on one w: one e and one v, c and the place for e c
 pub record TestsOneW (set : Numbers) (e v ps : List ℕ) (ss ec : List ℤ) : Type 0 where
-  pub fitting : Fitting set
+  pub good : Good set
   pub e-long : length e ≡ set .n
   pub v-long : length v ≡ set .n
   pub v-below : Below (set .q) v
@@ -63,7 +53,7 @@ pub record TestsOneW (set : Numbers) (e v ps : List ℕ) (ss ec : List ℤ) : Ty
 
 -- the tests on w_1..w_k: e_1..e_k, v_1..v_k, c and the place for one e_i c
 pub record TestsW (set : Numbers) (e v ps : List ℕ) (ss ec : List ℤ) : Type 0 where
-  pub fitting : Fitting set
+  pub good : Good set
   pub e-long : length e ≡ set .k * set .n
   pub v-long : length v ≡ set .k * set .n
   pub v-below : Below (set .q) v
@@ -81,7 +71,7 @@ pub record Commits (set : Numbers) (y : List ℤ) (yr a v bytes : List ℕ) : Ty
 
 -- what an attempt does once c' is known: s, e_1..e_k, y, v_1..v_k, and the places for c and z
 pub record Responds (set : Numbers) (s e : List ℕ) (y : List ℤ) (v ps : List ℕ) (ss z : List ℤ) : Type 0 where
-  pub fitting : Fitting set
+  pub good : Good set
   pub s-long : length s ≡ set .n
   pub e-long : length e ≡ set .k * set .n
   pub y-long : length y ≡ set .n
@@ -106,7 +96,7 @@ pub record Places (set : Numbers) (y : List ℤ) (yr a v bytes ps : List ℕ) (s
 
 -- a set, and the secret polynomials
 pub record Secrets (set : Numbers) (s e : List ℕ) : Type 0 where
-  pub fitting : Fitting set
+  pub good : Good set
   pub s-long : length s ≡ set .n
   pub e-long : length e ≡ set .k * set .n
 
@@ -129,7 +119,7 @@ pub record TestsInputs (set : Numbers) (places : List ℕ) : Type 0 where
 
 -- a search with the key of a secret record of the right length
 pub record SearchesKey (set : Numbers) (secret : List ℕ) (budget : ℕ) : Type 0 where
-  pub fitting : Fitting set
+  pub good : Good set
   pub long : length secret ≡ secretBytes set
   pub few : budget ≤ budgetLimit
 
@@ -148,7 +138,7 @@ pub record SignsTested (set : Numbers) (signature digest rand : List ℕ) : Type
 
 -- a set, and the places of a signer besides those of an attempt
 pub record Signs (set : Numbers) (slots digest rand : List ℕ) : Type 0 where
-  pub fitting : Fitting set
+  pub good : Good set
   pub slots-long : length slots ≡ set .h
   pub digest-long : length digest ≡ digestBytes
   pub rand-long : length rand ≡ seedBytes

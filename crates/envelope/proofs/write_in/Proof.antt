@@ -28,7 +28,7 @@ put-envelope-requires c κs =
     let tested = told .before .before .before .before in
     let start = tested .before .before .before .before .before .before in
     let a = start .args in
-    (start .pre .signs .good, writable (a .set) (a .roster .now) (a .signature .now) _ (done-number (told .enum-told .given .1) (tested .test-write .ensures)))
+    (start .pre .good, writable (a .set) (a .roster .now) (a .signature .now) _ (done-number (told .enum-told .given .1) (tested .test-write .ensures)))
 
 same-length-2 : tie.Need-same-length-2
 same-length-2 c = search needs

@@ -11,7 +11,7 @@ test-inputs-requires : tie.Need-test-inputs-requires
 test-inputs-requires c κs =
     let start = c .before .before .before .before .before .before .before .before .before .before .before in
     let asked = start .pre in
-    record { good = asked .writes .good; slots-long = asked .slots-long }
+    record { good = asked .good; slots-long = asked .slots-long }
 
 enum-told : tie.Need-enum-told
 enum-told c = search needs

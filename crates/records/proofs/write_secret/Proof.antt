@@ -1,14 +1,14 @@
 -- `records::write_secret` meets its contract: the general function at set I. Assumes nothing.
-use Rattle.records.specs.Pieces.{setI-writes}
 use borrow.Author.Needs.{needs}
 use Rattle.records.proofs.write_secret.Statement.{statement}
 use Rattle.records.proofs.write_secret.Tie as tie
+use Rattle.sets.specs.SetI.{setI-good}
 
 numbers-requires : tie.Need-numbers-requires
 numbers-requires c κs = search needs
 
 write-requires : tie.Need-write-requires
-write-requires c κs = rw (c .before .numbers .ensures) setI-writes
+write-requires c κs = rw (c .before .numbers .ensures) setI-good
 
 same-length : tie.Need-same-length
 same-length c = search needs

@@ -1,6 +1,7 @@
 -- `packed_in_range` meets its contract. Assumes nothing.
 use native.Mathlib.Omega.{arith}
 use borrow.Author.Needs.{needs}
+use Rattle.sets.specs.GoodLaws.{z-narrow}
 use Rattle.signatures.proofs.Steps.{z-wide, bits-below, range-of-bits}
 use Rattle.signatures.proofs.packed_in_range.Statement.{statement}
 use Rattle.signatures.proofs.packed_in_range.Tie as tie
@@ -15,8 +16,8 @@ bits-in-range-requires : tie.Need-bits-in-range-requires
 bits-in-range-requires c κs =
     let u = c .before .before .before in
     let start = u .before .before .before .before .before in
-    let signs = start .pre .room .signs in
-    ((z-wide signs, signs .narrow), bits-below (start .args .set) (start .args .signature .now) (u .unpack-bits .ensures))
+    let good = start .pre .room .good in
+    ((z-wide good, z-narrow good), bits-below (start .args .set) (start .args .signature .now) (u .unpack-bits .ensures))
 
 same-length : tie.Need-same-length
 same-length c = search needs

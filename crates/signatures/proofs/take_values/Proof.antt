@@ -13,7 +13,7 @@ add-start c = search needs
 from-bits-requires : tie.Need-from-bits-requires
 from-bits-requires c κs =
     let start = c .before .before .before .before .before in
-    bits-asked (start .args .set) (start .args .signature .now) (start .pre .bits-are) (start .pre .signs) (start .pre .z-long)
+    bits-asked (start .args .set) (start .args .signature .now) (start .pre .bits-are) (start .pre .good) (start .pre .z-long)
 
 copy-out-requires : tie.Need-copy-out-requires
 copy-out-requires c κs = search needs

@@ -11,7 +11,7 @@ from-bits-requires : tie.Need-from-bits-requires
 from-bits-requires c κs =
     let u = c .before .before .before .before in
     let start = u .before .before .before .before in
-    bits-asked (start .args .set) (start .args .signature .now) (u .unpack-bits .ensures) (start .pre .reads .room .signs) (start .pre .z-long)
+    bits-asked (start .args .set) (start .args .signature .now) (u .unpack-bits .ensures) (start .pre .reads .room .good) (start .pre .z-long)
 
 same-length : tie.Need-same-length
 same-length c = search needs

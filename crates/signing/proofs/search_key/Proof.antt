@@ -11,27 +11,27 @@ use Rattle.signing.proofs.search_key.Tie as tie
 e-start-requires : tie.Need-e-start-requires
 e-start-requires c κs =
     let start = c .before .before .before .before .before .before .before .before .before in
-    start .pre .0 .fitting .good
+    start .pre .0 .good
 
 seed-a-start-requires : tie.Need-seed-a-start-requires
 seed-a-start-requires c κs =
     let start = c .before .before .before .before .before .before .before .before .before .before in
-    start .pre .0 .fitting .good
+    start .pre .0 .good
 
 seed-y-start-requires : tie.Need-seed-y-start-requires
 seed-y-start-requires c κs =
     let start = c .before .before .before .before .before .before .before .before .before .before .before in
-    start .pre .0 .fitting .good
+    start .pre .0 .good
 
 g-start-requires : tie.Need-g-start-requires
 g-start-requires c κs =
     let start = c .before .before .before .before .before .before .before .before .before .before .before .before in
-    start .pre .0 .fitting .good
+    start .pre .0 .good
 
 secret-bytes-requires : tie.Need-secret-bytes-requires
 secret-bytes-requires c κs =
     let start = c .before .before .before .before .before .before .before .before .before .before .before .before .before in
-    start .pre .0 .fitting .good
+    start .pre .0 .good
 
 sub-search : tie.Need-sub-search
 sub-search c = omega (arith, c .before .before .before .before .e-start .ensures)

@@ -12,7 +12,7 @@ use Rattle.signing.proofs.sign_in.Tie as tie
 test-inputs-requires : tie.Need-test-inputs-requires
 test-inputs-requires c κs =
     let start = c .before .before .before .before .before .before .before .before .before .before .before .before .before .before in
-    record { good = start .pre .0 .fitting .good; places-long = start .pre .0 .slots-long }
+    record { good = start .pre .0 .good; places-long = start .pre .0 .slots-long }
 
 passed-requires : tie.Need-passed-requires
 passed-requires c κs = search needs
@@ -37,7 +37,7 @@ sign-tested-requires c κs =
     let start = c .before .before .before .before .before .before .before .before .before .before .before .before .before .before .before .before .before .before .before .before .before .before .before .before .before .before .before .before .before .before .before in
     let a = start .args in
     let none = tests-pass {number = answer (signTests (a .set) (a .secret .now) (length (a .message .now)) (length (a .r .now)) (a .budget) (length (a .signature .now)))} (at-test-inputs .test-inputs .ensures) (at-passed .passed .ensures) (not-false _ (at-if1 .if1 .left)) in
-    (record { fitting = start .pre .0 .fitting; long = tested-secret (a .set) (a .secret .now) (length (a .message .now)) (length (a .r .now)) (a .budget) (length (a .signature .now)) none; few = tested-budget (a .set) (a .secret .now) (length (a .message .now)) (length (a .r .now)) (a .budget) (length (a .signature .now)) none }, (start .pre .1, record { signature-long = tested-signature (a .set) (a .secret .now) (length (a .message .now)) (length (a .r .now)) (a .budget) (length (a .signature .now)) none; digest-long = start .pre .0 .digest-long; rand-long = start .pre .0 .rand-long }))
+    (record { good = start .pre .0 .good; long = tested-secret (a .set) (a .secret .now) (length (a .message .now)) (length (a .r .now)) (a .budget) (length (a .signature .now)) none; few = tested-budget (a .set) (a .secret .now) (length (a .message .now)) (length (a .r .now)) (a .budget) (length (a .signature .now)) none }, (start .pre .1, record { signature-long = tested-signature (a .set) (a .secret .now) (length (a .message .now)) (length (a .r .now)) (a .budget) (length (a .signature .now)) none; digest-long = start .pre .0 .digest-long; rand-long = start .pre .0 .rand-long }))
 
 same-length-2 : tie.Need-same-length-2
 same-length-2 c =

@@ -10,7 +10,7 @@ hash-message-requires : tie.Need-hash-message-requires
 hash-message-requires c κs =
     let start = c .before .before .before .before .before .before .before .before .before .before .before .before .before .before in
     let pre = start .pre in
-    record { good = pre .0 .fitting .good; long = pre .0 .long; digest-long = pre .1 .1 .digest-long; rand-long = pre .1 .1 .rand-long }
+    record { good = pre .0 .good; long = pre .0 .long; digest-long = pre .1 .1 .digest-long; rand-long = pre .1 .1 .rand-long }
 
 search-key-requires : tie.Need-search-key-requires
 search-key-requires c κs =
@@ -27,7 +27,7 @@ write-checked-requires c κs =
     let places = start .pre .1 .0 in
     let kept = at-search-key .search-key .kept in
     record {
-      room = record { signs = record { good = start .pre .0 .fitting .good; narrow = start .pre .0 .fitting .z-narrow }; scratch-long = kept .1 .1 .1 .1 .1 .1 .1 .0 ∙ places .a-long };
+      room = record { good = start .pre .0 .good; scratch-long = kept .1 .1 .1 .1 .1 .1 .1 .0 ∙ places .a-long };
       z-long = kept .1 .1 .1 .1 .1 .1 .1 .1 .1 .1 .1 .1 .0 ∙ places .z-long;
       z-inside = found-inside (start .args .set) (keyOf (start .args .set) (start .args .secret .now)) _ _ (start .args .budget) (c .before .before .before .before .before .found .given .0 .0) (at-search-key .search-key .last .1 .1 .1 .1 .1 .1 .1 .1 .1 .1 .1 .1 .0) (at-search-key .search-key .last .1 .1 .1 .1 .1 .1 .1 .1 .1 .1 .1 .1 .1 .0) (sign-found (at-search-key .search-key .last .1 .1 .1 .1 .1 .1 .1 .1 .1 .1 .1 .1 .0) (at-search-key .search-key .last .1 .1 .1 .1 .1 .1 .1 .1 .1 .1 .1 .1 .1 .0) (at-search-key .search-key .ensures) (c .before .before .before .before .before .found .given .0 .0) (c .before .before .before .before .before .found .given .1));
       c-long = kept .1 .1 .1 .1 .1 .1 .1 .1 .1 .1 .1 .1 .1 .0 ∙ places .c-long;

@@ -23,7 +23,7 @@ put-t-requires c κs =
 seed-start-requires : tie.Need-seed-start-requires
 seed-start-requires c κs =
     let start = c .before .before .before .before .before .before .before .before .before .before .before .before .before .before .before .before .before .before .before .before .before .before .before .before .before .before .before in
-    start .pre .writes .good
+    start .pre .good
 
 copy-at-requires : tie.Need-copy-at-requires
 copy-at-requires c κs =

@@ -9,7 +9,7 @@ use Rattle.keys.proofs.secret.put_secret.Tie as tie
 seed-start-requires : tie.Need-seed-start-requires
 seed-start-requires c κs =
     let start = c .before .before .before .before .before .before in
-    start .pre .writes .good
+    start .pre .good
 
 sub-key-digest : tie.Need-sub-key-digest
 sub-key-digest c = omega (arith, c .seed-start .ensures)
@@ -28,7 +28,7 @@ slice-aggregate-key-digest c = search needs
 key-digest-requires : tie.Need-key-digest-requires
 key-digest-requires c κs =
     let start = c .before .before .before .before .before .before .before .before .before in
-    record { good = start .pre .writes .good; long = refl }
+    record { good = start .pre .good; long = refl }
 
 slice-aggregate-put : tie.Need-slice-aggregate-put
 slice-aggregate-put c = search needs

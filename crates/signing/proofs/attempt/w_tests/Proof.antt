@@ -20,10 +20,10 @@ loop-holds : tie.Need-loop-holds Inv-loop μ-loop
 loop-holds c = testing-none (c .before .before .before .pre)
 
 mul-start : tie.Need-mul-start Inv-loop μ-loop
-mul-start c = omega (arith, row-inside (c .before .before .before .before .before .pre .fitting .good) (c .loop-test .taken))
+mul-start c = omega (arith, row-inside (c .before .before .before .before .before .pre .good) (c .loop-test .taken))
 
 add-end : tie.Need-add-end Inv-loop μ-loop
-add-end c = omega (arith, row-inside (c .before .before .before .before .before .pre .fitting .good) (c .loop-test .taken))
+add-end c = omega (arith, row-inside (c .before .before .before .before .before .pre .good) (c .loop-test .taken))
 
 sub-w-test : tie.Need-sub-w-test Inv-loop μ-loop
 sub-w-test c = omega arith
@@ -37,7 +37,7 @@ part-w-test-end c =
     omega (arith, row-fits (start .args .set .n) (start .args .set .k) (c .before .loop .i) (c .loop-test .taken), start .pre .e-long)
 
 mul-w-test : tie.Need-mul-w-test Inv-loop μ-loop
-mul-w-test c = omega (arith, row-inside (c .before .before .before .before .before .before .pre .fitting .good) (c .before .loop-test .taken))
+mul-w-test c = omega (arith, row-inside (c .before .before .before .before .before .before .pre .good) (c .before .loop-test .taken))
 
 sub-w-test-2 : tie.Need-sub-w-test-2 Inv-loop μ-loop
 sub-w-test-2 c = omega arith
