@@ -1,4 +1,4 @@
--- The contract of `check` determines its answer. It has no output.
+-- The contracts of `check` and of its answer's `number` determine their results. They have no output.
 -- Assumes nothing.
 use mathlib.Core.Path.{sym, _∙_}
 use Rattle.whole.specs.Determined.{Result}

@@ -1,4 +1,4 @@
-// The public, the secret and the signature record: written from their values and read into them. The entries of set I.
+// The public and the secret record: written from their values and read into them. The entries of set I.
 pub mod pieces;
 pub mod public;
 pub mod secret;

@@ -1,5 +1,4 @@
--- How long packed z is at most; |z| as the code takes it, of an i32 and of the b bits that stand for z; and the loops that test it
--- against the bound.
+-- |z| as the code takes it, of an i32 and of the b bits that stand for z; and the loops that test it against the bound.
 -- Assumes nothing.
 use mathlib.Core.Path.{_≡_, sym, ap, _∙_}
 use mathlib.Core.Bool.{Bool, true, false}

@@ -1,4 +1,5 @@
--- The contract of `sign` determines its answer, with the counter, and the signature's bytes. Assumes nothing.
+-- The contract of `sign` determines its answer, with the counter, and the signature's bytes; those of its answer's methods determine
+-- their results. Assumes nothing.
 use mathlib.Core.Path.{_≡_, refl, sym, ap₂, _∙_}
 use mathlib.Core.Bool.{cond}
 use Prim.Native.Nat.{ℕ}
