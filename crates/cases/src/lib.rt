@@ -184,7 +184,7 @@ pub fn print_hex(bytes: &[u8]) {
     }
 }
 
-// Writes 32 bytes of what the sponge has absorbed, in hexadecimal.
+// Squeezes 32 bytes from the sponge and writes them in hexadecimal.
 pub fn print_hash(sponge: Sponge) {
     let mut hash = [0u8; 32];
     sponge.squeeze(&mut hash);

@@ -40,7 +40,7 @@ use Rattle.signing.specs.AttemptLaws.{vOf-length, wOf-length, zFrom-length, Pas
 use Rattle.checking.specs.Check.{checkW, checkHighs, publicG, checkTests}
 use Rattle.demands.specs.Alike.{same-w, alike}
 
--- ---- lengths
+-- ---- lengths, and a mark
 
 pub challenge-length : (set : Numbers) (highs : List ℤ) (digest g : List ℕ) → length (challenge set highs digest g) ≡ seedBytes
 unfolding challenge

@@ -1,5 +1,6 @@
 -- Laws of the public record of a good set. What is written reads back: `public-t`, `public-allT`, `public-seedA`, `public-marked`, and
 -- `public-reads`, that no test fails; what reads is what would be written: `public-again`.
+-- With them, laws of marks and of polynomials in a row, for all records.
 -- Assumes nothing.
 use mathlib.Core.Path.{_≡_, refl, sym, ap, ap₂, _∙_}
 use mathlib.Core.Bool.{true}

@@ -1,4 +1,5 @@
--- The contracts of the three entries determine their results and their outputs, refusals included. Assumes nothing.
+-- The contracts of the three entries determine their results and their outputs, refusals included, and that of their answer's `number`
+-- its result. Assumes nothing.
 use mathlib.Core.Path.{_≡_, refl, sym, _∙_}
 use native.Mathlib.Omega.{arith}
 use denote.Ref.{now}

@@ -21,7 +21,7 @@ use Rattle.sets.specs.Good.{Good}
 use Rattle.sets.specs.Marks.{streamMark, fresh}
 use Rattle.sampling.specs.Streams.{twoBytes, challenge}
 
--- what each element of a slice of bytes shows
+-- the two bytes of a number are bytes
 pub two-below : (x : ℕ) → Below 256 (twoBytes x)
 two-below x = below-cons (omega arith) (below-cons (omega arith) below-none)
 

@@ -1,4 +1,4 @@
--- The seven streams: each is SHAKE256 over a two-byte mark and its inputs. What is drawn or hashed from each.
+-- The seven streams: each is SHAKE256 over a two-byte mark and its inputs. What is drawn or hashed from each, and the high parts that H takes.
 -- Bytes make numbers low byte first.
 -- Assumes nothing: these are definitions.
 use mathlib.Core.List.{List, [], _∷_, _++_, map}
@@ -60,7 +60,7 @@ messageDigest s message = stream s 4 message 40
 unfoldable pub keyDigest : Numbers → List ℕ → List ℕ
 keyDigest s packedT = stream s 5 packedT 40
 
--- what H takes first: the high parts of the k polynomials v_1..v_k, i then coefficient
+-- what H takes first: the high parts of k polynomials, i then coefficient: the signer's v_1..v_k, the receiver's w_1..w_k
 unfoldable pub highsOf : Numbers → (ℕ → List ℕ) → List ℤ
 highsOf set v = joined (set .k) (λ i. map (λ x. high (set .q) (set .d) (pos x)) (v i))
 

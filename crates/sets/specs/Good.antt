@@ -1,4 +1,4 @@
--- What a set's numbers have to satisfy: the conditions on which the ring, rounding, packing, sampling and demand 3 rest.
+-- What a set's numbers have to satisfy: all that the code and the theorems ask of them. Each comment says what it is for.
 -- A set is added by proving them of its numbers. Theorems on 10, and on when signing answers 8, ask more: the bound on the high part,
 -- which is computed from q and d.
 -- Assumes nothing: these are definitions.
@@ -29,14 +29,14 @@ pub record Good (s : Numbers) : Type 0 where
   -- sampling: y + b fits its width, and a candidate less 2b + 1 is at most 2b
   pub y-fits : 2 * s .b + 1 ≤ 2 ^ s .«z_bits»
   pub y-once : 2 ^ s .«z_bits» ≤ 2 * (2 * s .b + 1)
+  -- sampling: a candidate of 3 bytes holds y
+  pub y-bytes : s .«z_bits» ≤ 24
   -- ring: y and z are at most q in size
   pub b-small : s .b ≤ s .q
-  -- packing: z from −(b − s) to b − s is in the range of its width
+  -- packing: z from −(b − s) to b − s is in the range of its width, which is a byte at least; a polynomial fills whole bytes
   pub z-some : s .s ≤ s .b
   pub z-fits : s .b - s .s < 2 ^ (s .«z_bits» - 1)
   pub z-byte : 8 ≤ s .«z_bits»
-  -- sampling: a candidate of 3 bytes holds y
-  pub y-bytes : s .«z_bits» ≤ 24
   pub z-whole : s .«z_bits» * s .n % 8 ≡ 0
   -- sampling: h positions can be drawn, from 256 candidates
   pub h-inside : s .h ≤ s .n

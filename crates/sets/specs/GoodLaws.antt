@@ -26,7 +26,7 @@ module _ {set : Numbers} (good : Good set) where
   pub z-narrow : set .«z_bits» < 32
   z-narrow = omega (arith, good .y-bytes)
 
-  -- and so is y + s c
+  -- y is at most 2^29 in size, so that y + s c fits a word with a sign
   pub y-small : set .b ≤ 2 ^ 29
   y-small =
       let few : 2 ^ set .«z_bits» ≤ 2 ^ 24 = pow-mono (good .y-bytes) in

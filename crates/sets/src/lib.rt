@@ -1,4 +1,4 @@
-// The numbers of a set of parameters, and set I, qTESLA-p-I, where they are written.
+// The numbers of a set of parameters, the limits that no set changes, and set I, qTESLA-p-I, with its fresh sponges.
 use shake::Sponge;
 ghost use mathlib.Core.Path.{_≡_};
 ghost use Prim.Native.Nat.{_<_};

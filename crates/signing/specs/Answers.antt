@@ -1,5 +1,5 @@
 -- What the answers of the code stand for: an attempt's outcome, what a search found, document 01's number of each answer, and the
--- counter that comes with it.
+-- counter that comes with it; and the tests of signing in parts.
 -- Assumes nothing: these are definitions.
 use mathlib.Core.List.{List, [], _∷_}
 use mathlib.Core.Bool.{_&&_}

@@ -21,7 +21,7 @@ Output n ps r Learnt output =
     (κs : Lfts n) (a : Dens κs ps) (x y : resT r κs .Denot) (e f : AtExit (endedOf n ps r) κs)
     → Learnt κs a x e → Learnt κs a y f → output κs e ≡ output κs f
 
--- what is told by its number: where x can be read off f x, no two have one f
+-- what is told by its number: where x can be read back from f x, two x with the same f x are equal
 pub one-to-one : {A B : Type 0} {f : A → B} (back : B → A) → ((x : A) → back (f x) ≡ x) → (x y : A) → f x ≡ f y → x ≡ y
 one-to-one back h x y e = sym (h x) ∙ ap back e ∙ h y
 

@@ -15,7 +15,7 @@ use lib.IntN.{ℤ, pos, negsuc, negℤ, natAbs, subℕ, _+ℤ_, _-ℤ_, _*ℤ_}
 use lib.Signed.{_≤ℤ_, _<ℤ_, ltZ, mag}
 use borrow.Author.Tests.{ltb-true}
 
--- ---- order is decided
+-- ---- naturals
 
 pub lt-or-le : (a b : ℕ) → (a < b) ⊎ (b ≤ a)
 lt-or-le a b = go (decLt a b)
@@ -26,6 +26,8 @@ lt-or-le a b = go (decLt a b)
 
 pub less-one : (k : ℕ) → suc k - 1 ≡ k
 less-one k = omega arith
+
+-- ---- the parts of a whole number
 
 abbrev pub up : ℤ → ℕ
 up (pos n) = n

@@ -231,6 +231,8 @@ unfolding sameBytes
 same-refl-bytes [] = refl
 same-refl-bytes (x ∷ xs) = both (eq-eqb x x refl) (same-refl-bytes xs)
 
+-- ---- more of the answer and of `every`
+
 -- an answer is 0 or one of the tests' numbers, so at most the largest of them
 pub answer-most : (m : ℕ) (ts : List Test) → every (λ (t : Test). leb (t .number) m) ts ≡ true → answer ts ≤ m
 unfolding answer every

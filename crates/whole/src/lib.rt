@@ -1,1 +1,1 @@
-// Laws alone: `specs/` has them, and every other crate takes them from there.
+// No code: specs/ has the laws, and the few definitions, that the other crates share.

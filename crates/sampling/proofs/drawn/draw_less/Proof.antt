@@ -1,10 +1,13 @@
+-- `draw_less` meets its contract. The loop's invariant: what stands in the output and what the candidates to come give are together all the
+-- values, less b. The measure is the number of candidates to come.
+-- Assumes nothing.
 use lib.Seq.{length-take-le}
-use Rattle.shake.specs.Pieces.{length-squeezed}
 use mathlib.Core.Path.{_≡_, refl, sym, _∙_}
 use mathlib.Core.List.{map}
 use Prim.Native.Nat.{_+_, _*_, _-_, _≤_}
 use native.Mathlib.Omega.{arith}
 use lib.ListN.{length}
+use Rattle.shake.specs.Pieces.{length-squeezed}
 use Rattle.shake.specs.Sponge.{squeezed}
 use Rattle.sampling.specs.Candidates.{candidates}
 use Rattle.sampling.specs.Values.{values}
@@ -14,10 +17,6 @@ use Rattle.sampling.proofs.ValueSteps.{kept-map}
 use Rattle.sampling.proofs.DrawnSteps.{Squeezing, stored-most, squeezing-none, squeezing-more, squeezing-all, buffer-state, buffer-bytes, buffer-length}
 use Rattle.sampling.proofs.drawn.draw_less.Statement.{statement}
 use Rattle.sampling.proofs.drawn.draw_less.Tie as tie
-
--- `draw_less` meets its contract. The loop's invariant: what stands in the output and what the candidates to come give are together all the
--- values, less b. The measure is the number of candidates to come.
--- Assumes nothing.
 
 abbrev Inv-loop : tie.InvT-loop
 Inv-loop bits b out₀ sponge₀ buffer₀ left₀ at₀ out sponge buffer left at =

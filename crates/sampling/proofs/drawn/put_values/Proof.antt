@@ -1,3 +1,6 @@
+-- `put_values` meets its contract. The loop's invariant: what is taken of the first j candidates is stored. The measure is the number of
+-- candidates left.
+-- Assumes nothing.
 use mathlib.Core.Path.{sym, _∙_}
 use Prim.Native.Nat.{_-_}
 use native.Mathlib.Omega.{arith}
@@ -7,10 +10,6 @@ use Rattle.sampling.specs.Stored.{stored-length}
 use Rattle.sampling.proofs.DrawnSteps.{Putting, putting-none, putting-from, putting-more, putting-all}
 use Rattle.sampling.proofs.drawn.put_values.Statement.{statement}
 use Rattle.sampling.proofs.drawn.put_values.Tie as tie
-
--- `put_values` meets its contract. The loop's invariant: what is taken of the first j candidates is stored. The measure is the number of
--- candidates left.
--- Assumes nothing.
 
 abbrev Inv-loop : tie.InvT-loop
 Inv-loop stretch bits range later need out₀ at held next₀ j₀ out next j = Putting range need later (candidates 4 bits stretch) out₀ at out next j
