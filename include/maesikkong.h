@@ -25,7 +25,7 @@ extern "C" {
 /* What comes back. */
 enum {
     MAESIKKONG_DONE = 0,        /* done or accepted */
-    MAESIKKONG_LENGTH = 1,      /* a length is not the one named */
+    MAESIKKONG_LENGTH = 1,      /* a length is not the one named, or a stream holds too few candidates */
     MAESIKKONG_MARK = 2,        /* a mark is wrong */
     MAESIKKONG_MESSAGE = 3,     /* message over 32,768 bytes, or the envelope's L over it */
     MAESIKKONG_BUDGET = 4,      /* budget outside 1 to 1,024 */
