@@ -19,7 +19,7 @@ use Rattle.records.specs.Secret.{sOf, allE, inByteRange}
 use Rattle.keys.specs.Key.{eachEPasses}
 use Rattle.signing.specs.Sign.{signTests}
 use Rattle.signing.specs.Answers.{secretsTests, valueTests}
-use Rattle.signing.specs.Asks.{TestsSecrets, TestsValues, TestsInputs}
+use Rattle.signing.specs.Asks.{Whole, SecretsLent}
 
 -- ---- the h places
 
@@ -105,9 +105,9 @@ module _ (set : Numbers) (secret : List ℕ) (long : length secret ≡ secretByt
   pub e-long : length (take (end - at) (drop at secret)) ≡ set .k * set .n
   e-long = ap₂ (λ (m j : ℕ). length (take m (drop j secret))) e-size a ∙ part-length (2 + set .n) (set .k * set .n) secret (omega arith)
 
-pub e-tests : {set : Numbers} {secret slots : List ℕ} (t : TestsValues set secret slots) {at end : ℕ} (a : at ≡ 2 + set .n) (b : end ≡ 2 + set .n + set .k * set .n)
-    → TestsSecrets set (take (end - at) (drop at secret)) slots
-e-tests {set} {secret} t a b = record { good = t .good; e-long = e-long set secret (t .long) a b; places-long = t .places-long }
+pub e-tests : {set : Numbers} {secret : List ℕ} (t : Whole set secret) {at end : ℕ} (a : at ≡ 2 + set .n) (b : end ≡ 2 + set .n + set .k * set .n)
+    → SecretsLent set (take (end - at) (drop at secret))
+e-tests {set} {secret} t a b = record { good = t .good; e-long = e-long set secret (t .long) a b }
 
 -- ---- and all of them
 
@@ -121,13 +121,8 @@ module _ (set : Numbers) (secret : List ℕ) (message r budget signature : ℕ) 
   unfolding signTests valueTests secretsTests
   inputs-rest f g = g ∙ sym (answer-pass 1 _ (sym e ∙ f))
 
-  pub inputs-values : {slots : List ℕ} → right ≡ true → TestsInputs set slots → TestsValues set secret slots
-  inputs-values f t =
-      record {
-        good = t .good;
-        long = same-first (length secret) (secretBytes set) _ (sym e ∙ f);
-        places-long = t .places-long;
-      }
+  pub inputs-values : right ≡ true → Good set → Whole set secret
+  inputs-values f good = record { good = good; long = same-first (length secret) (secretBytes set) _ (sym e ∙ f) }
 
 -- ---- the budget
 

@@ -1,3 +1,5 @@
+pub mod FillSteps
+pub mod RowSteps
 pub mod HighSteps
 pub mod TestSteps
 pub mod ProductSteps

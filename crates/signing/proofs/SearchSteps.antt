@@ -4,88 +4,95 @@ use mathlib.Core.List.{List}
 use Prim.Native.Nat.{ℕ, zero, suc, _+_, _≤_, _<_}
 use native.Mathlib.Numerals.{add-one}
 use native.Mathlib.Omega.{arith}
-use lib.IntN.{ℤ}
 use lib.ListN.{length}
 use Rattle.sets.specs.declared.Numbers.{Numbers}
+use Rattle.sets.specs.SetI.{setI}
+use Rattle.sampling.specs.Streams.{allA}
+use Rattle.records.specs.Secret.{secretSeedA}
 use Rattle.signing.specs.declared.attempt.Tried.{Tried}
 use Rattle.signing.specs.declared.attempt.Tried.the-variants.{Passes, Fails, Overflows}
-use Rattle.signing.specs.Answers.{outcomeOf}
-use Rattle.signing.specs.Asks.{Places}
+use Rattle.signing.specs.declared.search.Searched.the-variants.{Found, Nothing, Overflow}
 use Rattle.signing.specs.Attempt.{Outcome, passes, fails, overflows}
-use Rattle.signing.specs.Search.{found, none, overflow, next, searchFrom, search}
+use Rattle.signing.specs.Search.{next, searchFrom, search}
+use Rattle.signing.specs.Search as searches
+use Rattle.signing.specs.Asks.{Attempts, Searches, SearchesKey, DrawsKey}
+use Rattle.signing.specs.Tries.{Tries, triedOf, triedSignature, Finds}
 
--- what the answer of an attempt says of it
-pub tried-passes : {r : Tried} {o : Outcome} (z : List ℤ) (c′ : List ℕ) → r ≡ Passes → outcomeOf r z c′ ≡ o → passes z c′ ≡ o
-tried-passes z c′ e f = ap (λ (t : Tried). outcomeOf t z c′) (sym e) ∙ f
+-- ---- the search in set I
 
-pub tried-fails : {r : Tried} {o : Outcome} (z : List ℤ) (c′ : List ℕ) → r ≡ Fails → outcomeOf r z c′ ≡ o → fails ≡ o
-tried-fails z c′ e f = ap (λ (t : Tried). outcomeOf t z c′) (sym e) ∙ f
+pub search-draws : {set : Numbers} {secret signature : List ℕ} {budget : ℕ} → set ≡ setI → SearchesKey set secret budget signature → {a : List ℕ} → length a ≡ 4096 → DrawsKey set secret a
+search-draws e s l = record { whole = s .whole; a-long = rw e l }
 
-pub tried-overflows : {r : Tried} {o : Outcome} (z : List ℤ) (c′ : List ℕ) → r ≡ Overflows → outcomeOf r z c′ ≡ o → overflows ≡ o
-tried-overflows z c′ e f = ap (λ (t : Tried). outcomeOf t z c′) (sym e) ∙ f
+pub search-asks : {set : Numbers} {secret signature a : List ℕ} {budget : ℕ} → SearchesKey set secret budget signature → a ≡ allA set (secretSeedA set secret) → Searches set secret a budget signature
+search-asks s e = record { attempts = record { whole = s .whole; a-is = e; signature-long = s .signature-long }; few = s .few }
 
--- an attempt leaves every place as long as it was
-pub places-kept : {set : Numbers} {y y₀ : List ℤ} {yr yr₀ a a₀ v v₀ bytes bytes₀ ps ps₀ : List ℕ} {ss ss₀ z z₀ : List ℤ} {c′ c₀ : List ℕ}
-    → Places set y₀ yr₀ a₀ v₀ bytes₀ ps₀ ss₀ z₀ c₀
-    → length y ≡ length y₀ → length yr ≡ length yr₀ → length a ≡ length a₀ → length v ≡ length v₀ → length bytes ≡ length bytes₀
-    → length ps ≡ length ps₀ → length ss ≡ length ss₀ → length z ≡ length z₀ → length c′ ≡ length c₀
-    → Places set y yr a v bytes ps ss z c′
-places-kept p y yr a v bytes ps ss z c′ =
-    record {
-      y-long = y ∙ p .y-long;
-      yr-long = yr ∙ p .yr-long;
-      a-long = a ∙ p .a-long;
-      v-long = v ∙ p .v-long;
-      bytes-long = bytes ∙ p .bytes-long;
-      ps-long = ps ∙ p .ps-long;
-      ss-long = ss ∙ p .ss-long;
-      z-long = z ∙ p .z-long;
-      c-long = c′ ∙ p .c-long;
-    }
+-- ---- one counter after another
 
--- the counters before `counter` fail: the search goes on from there
-pub record Searching (try : ℕ → Outcome) (budget counter : ℕ) : Type 0 where
+-- the counters before `counter` fail: the search goes on from there, and the signature record is as it was
+pub record Searching (try : ℕ → Outcome) (budget : ℕ) (old signature : List ℕ) (counter : ℕ) : Type 0 where
   pub left : ℕ
   pub within : counter + left ≡ budget + 1
   pub is : search try budget ≡ searchFrom try left counter
+  pub same : signature ≡ old
+  pub long : length signature ≡ length old
 
-pub searching-none : (try : ℕ → Outcome) (budget : ℕ) → Searching try budget 1
-searching-none try budget = record { left = budget; within = omega arith; is = refl }
+pub searching-none : (try : ℕ → Outcome) (budget : ℕ) (old : List ℕ) → Searching try budget old old 1
+searching-none try budget old = record { left = budget; within = omega arith; is = refl; same = refl; long = refl }
 
-module _ {try : ℕ → Outcome} {budget counter : ℕ} (s : Searching try budget counter) (l : counter ≤ budget) where
-  pub searching-found : {z : List ℤ} {c′ : List ℕ} → passes z c′ ≡ try counter → found counter z c′ ≡ search try budget
-  unfolding searchFrom
-  searching-found {z} {c′} h = go (s .left) (s .within) (s .is)
-    where
-      go : (left : ℕ) → counter + left ≡ budget + 1 → search try budget ≡ searchFrom try left counter → found counter z c′ ≡ search try budget
-      go zero w e = absurd (omega arith)
-      go (suc left) w e = sym (e ∙ ap (λ (o : Outcome). next o counter (searchFrom try left (suc counter))) (sym h))
-
-  pub searching-overflow : overflows ≡ try counter → overflow ≡ search try budget
-  unfolding searchFrom
-  searching-overflow h = go (s .left) (s .within) (s .is)
-    where
-      go : (left : ℕ) → counter + left ≡ budget + 1 → search try budget ≡ searchFrom try left counter → overflow ≡ search try budget
-      go zero w e = absurd (omega arith)
-      go (suc left) w e = sym (e ∙ ap (λ (o : Outcome). next o counter (searchFrom try left (suc counter))) (sym h))
-
-  pub searching-more : fails ≡ try counter → Searching try budget (counter + 1)
-  unfolding searchFrom
-  searching-more h = go (s .left) (s .within) (s .is)
-    where
-      go : (left : ℕ) → counter + left ≡ budget + 1 → search try budget ≡ searchFrom try left counter → Searching try budget (counter + 1)
-      go zero w e = absurd (omega arith)
-      go (suc left) w e =
-          record {
-            left = left;
-            within = omega arith;
-            is = rw add-one (e ∙ ap (λ (o : Outcome). next o counter (searchFrom try left (suc counter))) (sym h));
-          }
-
-pub searching-end : {try : ℕ → Outcome} {budget counter : ℕ} → Searching try budget counter → budget < counter → none ≡ search try budget
+-- the search where it goes on from this counter
+searching-is : {try : ℕ → Outcome} {budget : ℕ} {old signature : List ℕ} {counter : ℕ} → Searching try budget old signature counter → counter ≤ budget
+    → (left : ℕ) × ((counter + 1 + left ≡ budget + 1) × (search try budget ≡ next (try counter) counter (searchFrom try left (suc counter))))
 unfolding searchFrom
-searching-end {try} {budget} {counter} s l = go (s .left) (s .within) (s .is)
+searching-is {try} {budget} {counter = counter} s l = go (s .left) (s .within) (s .is)
   where
-    go : (left : ℕ) → counter + left ≡ budget + 1 → search try budget ≡ searchFrom try left counter → none ≡ search try budget
-    go zero w e = sym e
-    go (suc left) w e = absurd (omega arith)
+    go : (left : ℕ) → counter + left ≡ budget + 1 → search try budget ≡ searchFrom try left counter
+        → (left : ℕ) × ((counter + 1 + left ≡ budget + 1) × (search try budget ≡ next (try counter) counter (searchFrom try left (suc counter))))
+    go zero w e = absurd (omega arith)
+    go (suc left) w e = (left, (omega arith, e))
+
+module _ {try : ℕ → Outcome} {budget : ℕ} {old signature : List ℕ} {counter : ℕ} (s : Searching try budget old signature counter) where
+  pub searching-asks : {set : Numbers} {secret a : List ℕ} → Searches set secret a budget old → Attempts set secret a signature
+  searching-asks h = rw (s .same) (h .attempts)
+
+  module _ (l : counter ≤ budget) {set : Numbers} {new : List ℕ} {r : Tried} (t : Tries set (try counter) signature new r) where
+    abbrev later : searches.Found
+    later = searchFrom try (searching-is s l .0) (suc counter)
+
+    pub searching-found : r ≡ Passes → Finds set (search try budget) old new (Found counter)
+    searching-found h = rw (searching-is s l .1 .1) (go (try counter) (t .answer) (t .signature))
+      where
+        go : (o : Outcome) → r ≡ triedOf o → new ≡ triedSignature set o signature → Finds set (next o counter later) old new (Found counter)
+        go (passes z c′) a w = record { answer = refl; signature = w }
+        go fails a w = absurd (let x : _≡_ {A = ℕ} 0 1 = cc in omega arith)
+        go overflows a w = absurd (let x : _≡_ {A = ℕ} 0 1 = cc in omega arith)
+
+    pub searching-overflow : r ≡ Overflows → Finds set (search try budget) old new Overflow
+    searching-overflow h = rw (searching-is s l .1 .1) (go (try counter) (t .answer) (t .signature))
+      where
+        go : (o : Outcome) → r ≡ triedOf o → new ≡ triedSignature set o signature → Finds set (next o counter later) old new Overflow
+        go (passes z c′) a w = absurd (let x : _≡_ {A = ℕ} 0 1 = cc in omega arith)
+        go fails a w = absurd (let x : _≡_ {A = ℕ} 0 1 = cc in omega arith)
+        go overflows a w = record { answer = refl; signature = w ∙ s .same }
+
+    pub searching-more : r ≡ Fails → Searching try budget old new (counter + 1)
+    searching-more h = go (try counter) (t .answer) (t .signature) (searching-is s l .1 .1)
+      where
+        go : (o : Outcome) → r ≡ triedOf o → new ≡ triedSignature set o signature → search try budget ≡ next o counter later → Searching try budget old new (counter + 1)
+        go (passes z c′) a w e = absurd (let x : _≡_ {A = ℕ} 0 1 = cc in omega arith)
+        go fails a w e =
+            record {
+              left = searching-is s l .0;
+              within = searching-is s l .1 .0;
+              is = rw add-one e;
+              same = w ∙ s .same;
+              long = ap length (w ∙ s .same);
+            }
+        go overflows a w e = absurd (let x : _≡_ {A = ℕ} 0 1 = cc in omega arith)
+
+  pub searching-end : budget < counter → {set : Numbers} → Finds set (search try budget) old signature Nothing
+  unfolding searchFrom
+  searching-end l {set} = go (s .left) (s .within) (s .is)
+    where
+      go : (left : ℕ) → counter + left ≡ budget + 1 → search try budget ≡ searchFrom try left counter → Finds set (search try budget) old signature Nothing
+      go zero w e = rw e (record { answer = refl; signature = s .same })
+      go (suc left) w e = absurd (omega arith)

@@ -5,7 +5,6 @@ use mathlib.Core.List.{List, [], _∷_}
 use mathlib.Core.Bool.{_&&_}
 use Prim.Native.Nat.{ℕ}
 use lib.Dec.{leb}
-use lib.IntN.{ℤ}
 use Rattle.whole.specs.Refusal.{Test, _orElse_}
 use Rattle.ring.specs.Largest.{sumPasses}
 use Rattle.sets.specs.declared.Numbers.{Numbers}
@@ -13,32 +12,10 @@ use Rattle.sets.specs.Limits.{messageLimit, budgetLimit}
 use Rattle.records.specs.Layout.{marked}
 use Rattle.records.specs.Secret.{sOf, allE, inByteRange}
 use Rattle.keys.specs.Key.{eachEPasses}
-use Rattle.signing.specs.declared.attempt.Tried.{Tried}
-use Rattle.signing.specs.declared.attempt.Tried.the-variants.{Passes, Fails, Overflows}
-use Rattle.signing.specs.declared.search.Searched.{Searched}
-use Rattle.signing.specs.declared.search.Searched.the-variants.{Found, Nothing, Overflow}
 use Rattle.signing.specs.declared.inputs.Inputs.{Inputs}
 use Rattle.signing.specs.declared.SignAnswer.{SignAnswer}
 use Rattle.signing.specs.declared.inputs.Inputs.the-variants as inputs
 use Rattle.signing.specs.declared.SignAnswer.the-variants as answers
-use Rattle.signing.specs.Attempt as attempts
-use Rattle.signing.specs.Search as searches
-
--- the outcome of an attempt that left z and c'
-abbrev pub outcomeOf : Tried → List ℤ → List ℕ → attempts.Outcome
-outcomeOf Passes z c′ = attempts.passes z c′
-outcomeOf Fails z c′ = attempts.fails
-outcomeOf Overflows z c′ = attempts.overflows
-
--- what a search found that left z and c'
-abbrev pub foundOf : Searched → List ℤ → List ℕ → searches.Found
-foundOf (Found counter) z c′ = searches.found counter z c′
-foundOf Nothing z c′ = searches.none
-foundOf Overflow z c′ = searches.overflow
-
--- the key of which these are the parts
-abbrev pub keyWith : List ℕ → List ℕ → List ℕ → List ℕ → attempts.Key
-keyWith s e seedA g = record { s = s; e = e; seedA = seedA; g = g }
 
 -- the tests of signing on s and e_1..e_k
 unfoldable pub secretsTests : Numbers → List ℕ → List ℕ → List Test

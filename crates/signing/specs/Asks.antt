@@ -11,14 +11,37 @@ use Rattle.ring.specs.Sparse.{Signed}
 use Rattle.sets.specs.declared.Numbers.{Numbers}
 use Rattle.sets.specs.Good.{Good}
 use Rattle.sets.specs.Limits.{budgetLimit}
-use Rattle.records.specs.Layout.{seedBytes, digestBytes, secretBytes, signatureBytes}
+use Rattle.sets.specs.SetI.{setI}
+use Rattle.sampling.specs.Streams.{allA}
+use Rattle.records.specs.Layout.{secretBytes, signatureBytes}
+use Rattle.records.specs.Secret.{secretSeedA}
 
--- the k products v_1..v_k: y's residues, the place for one a_i and the places for the products
-pub record Multiplies (set : Numbers) (yr a v : List ℕ) : Type 0 where
+-- the sets that there are
+pub data Known : Numbers → Type 0 where
+  known-i : {set : Numbers} → set ≡ setI → Known set
+
+-- a set, and a secret record of the right length
+pub record Whole (set : Numbers) (secret : List ℕ) : Type 0 where
   pub good : Good set
+  pub long : length secret ≡ secretBytes set
+
+-- a set, and the places for a_1..a_k in a row
+pub record DrawsRow (set : Numbers) (a : List ℕ) : Type 0 where
+  pub good : Good set
+  pub a-long : length a ≡ set .k * set .n
+
+-- the same with the seed_a of a secret record
+pub record DrawsKey (set : Numbers) (secret a : List ℕ) : Type 0 where
+  pub whole : Whole set secret
+  pub a-long : length a ≡ set .k * set .n
+
+-- the k products v_1..v_k: a_1..a_k, y's residues, and the places for the products
+pub record Multiplies (set : Numbers) (a yr v : List ℕ) : Type 0 where
+  pub good : Good set
+  pub a-long : length a ≡ set .k * set .n
+  pub a-below : Below (set .q) a
   pub y-long : length yr ≡ set .n
   pub y-below : Below (set .q) yr
-  pub a-long : length a ≡ set .n
   pub v-long : length v ≡ set .k * set .n
 
 -- the high parts of v_1..v_k: the place for the bytes of one of them
@@ -60,12 +83,13 @@ pub record TestsW (set : Numbers) (e v ps : List ℕ) (ss ec : List ℤ) : Type 
   pub terms : Terms set ps ss
   pub ec-long : length ec ≡ set .n
 
--- what an attempt makes before c' is known: the places for y, its residues, one a_i, v_1..v_k and the bytes of one v_i
-pub record Commits (set : Numbers) (y : List ℤ) (yr a v bytes : List ℕ) : Type 0 where
+-- what an attempt makes before c' is known: a_1..a_k, and the places for y, its residues, v_1..v_k and the bytes of one v_i
+pub record Commits (set : Numbers) (a : List ℕ) (y : List ℤ) (yr v bytes : List ℕ) : Type 0 where
   pub good : Good set
+  pub a-long : length a ≡ set .k * set .n
+  pub a-below : Below (set .q) a
   pub y-long : length y ≡ set .n
   pub yr-long : length yr ≡ set .n
-  pub a-long : length a ≡ set .n
   pub v-long : length v ≡ set .k * set .n
   pub bytes-long : length bytes ≡ set .n
 
@@ -82,63 +106,53 @@ pub record Responds (set : Numbers) (s e : List ℕ) (y : List ℤ) (v ps : List
   pub ss-long : length ss ≡ set .h
   pub z-long : length z ≡ set .n
 
+-- the same with the s and e_1..e_k of a secret record
+pub record RespondsKey (set : Numbers) (secret : List ℕ) (y : List ℤ) (v : List ℕ) (z : List ℤ) : Type 0 where
+  pub whole : Whole set secret
+  pub y-long : length y ≡ set .n
+  pub y-within : Within (set .b) y
+  pub v-long : length v ≡ set .k * set .n
+  pub v-below : Below (set .q) v
+  pub z-long : length z ≡ set .n
+
+-- and the places for the signature record and for the bits of z
+pub record Concludes (set : Numbers) (secret signature : List ℕ) (y : List ℤ) (yr v : List ℕ) (z : List ℤ) : Type 0 where
+  pub responds : RespondsKey set secret y v z
+  pub yr-long : length yr ≡ set .n
+  pub signature-long : length signature ≡ signatureBytes set
+
 -- every place that an attempt works in
-pub record Places (set : Numbers) (y : List ℤ) (yr a v bytes ps : List ℕ) (ss z : List ℤ) (c′ : List ℕ) : Type 0 where
+pub record Places (set : Numbers) (y : List ℤ) (yr v bytes : List ℕ) (z : List ℤ) : Type 0 where
   pub y-long : length y ≡ set .n
   pub yr-long : length yr ≡ set .n
-  pub a-long : length a ≡ set .n
   pub v-long : length v ≡ set .k * set .n
   pub bytes-long : length bytes ≡ set .n
-  pub ps-long : length ps ≡ set .h
-  pub ss-long : length ss ≡ set .h
   pub z-long : length z ≡ set .n
-  pub c-long : length c′ ≡ seedBytes
 
--- a set, and the secret polynomials
-pub record Secrets (set : Numbers) (s e : List ℕ) : Type 0 where
+-- an attempt: a secret record, its a_1..a_k, and the place for the signature record
+pub record Attempts (set : Numbers) (secret a signature : List ℕ) : Type 0 where
+  pub whole : Whole set secret
+  pub a-is : a ≡ allA set (secretSeedA set secret)
+  pub signature-long : length signature ≡ signatureBytes set
+
+-- a search
+pub record Searches (set : Numbers) (secret a : List ℕ) (budget : ℕ) (signature : List ℕ) : Type 0 where
+  pub attempts : Attempts set secret a signature
+  pub few : budget ≤ budgetLimit
+
+-- a search that draws a_1..a_k
+pub record SearchesKey (set : Numbers) (secret : List ℕ) (budget : ℕ) (signature : List ℕ) : Type 0 where
+  pub whole : Whole set secret
+  pub few : budget ≤ budgetLimit
+  pub signature-long : length signature ≡ signatureBytes set
+
+-- the tests of s and e_1..e_k
+pub record SecretsLent (set : Numbers) (e : List ℕ) : Type 0 where
   pub good : Good set
-  pub s-long : length s ≡ set .n
   pub e-long : length e ≡ set .k * set .n
 
--- the tests of s and e_1..e_k: h places for the largest
+-- and h places for the largest
 pub record TestsSecrets (set : Numbers) (e places : List ℕ) : Type 0 where
   pub good : Good set
   pub e-long : length e ≡ set .k * set .n
   pub places-long : length places ≡ set .h
-
--- the tests of a secret record of the right length: h places for the largest
-pub record TestsValues (set : Numbers) (secret places : List ℕ) : Type 0 where
-  pub good : Good set
-  pub long : length secret ≡ secretBytes set
-  pub places-long : length places ≡ set .h
-
--- all tests: h places for the largest
-pub record TestsInputs (set : Numbers) (places : List ℕ) : Type 0 where
-  pub good : Good set
-  pub places-long : length places ≡ set .h
-
--- a search with the key of a secret record of the right length
-pub record SearchesKey (set : Numbers) (secret : List ℕ) (budget : ℕ) : Type 0 where
-  pub good : Good set
-  pub long : length secret ≡ secretBytes set
-  pub few : budget ≤ budgetLimit
-
--- G of the message and rand: a secret record of the right length, and the places for both
-pub record Hashes (set : Numbers) (secret digest rand : List ℕ) : Type 0 where
-  pub good : Good set
-  pub long : length secret ≡ secretBytes set
-  pub digest-long : length digest ≡ digestBytes
-  pub rand-long : length rand ≡ seedBytes
-
--- the places of a signer whose tests passed, besides those of an attempt
-pub record SignsTested (set : Numbers) (signature digest rand : List ℕ) : Type 0 where
-  pub signature-long : length signature ≡ signatureBytes set
-  pub digest-long : length digest ≡ digestBytes
-  pub rand-long : length rand ≡ seedBytes
-
--- a set, and the places of a signer besides those of an attempt
-pub record Signs (set : Numbers) (slots digest rand : List ℕ) : Type 0 where
-  pub good : Good set
-  pub slots-long : length slots ≡ set .h
-  pub digest-long : length digest ≡ digestBytes
-  pub rand-long : length rand ≡ seedBytes

@@ -6,3 +6,4 @@ pub mod Sign
 pub mod Parts
 pub mod Asks
 pub mod Answers
+pub mod Tries

@@ -1,5 +1,6 @@
 // The parts of one attempt, and the attempt.
 use sets::Numbers;
+use sets::SetI;
 use shake::Sponge;
 ghost use mathlib.Core.Path.{_≡_};
 ghost use mathlib.Core.Bool.{_&&_};
@@ -12,29 +13,29 @@ ghost use Rattle.rounding.specs.Tests.{fitsByte};
 ghost use Rattle.ring.specs.Sparse.{sparse};
 ghost use Rattle.shake.specs.Sponge.{absorbed};
 ghost use Rattle.sets.specs.Marks.{fresh};
-ghost use Rattle.sampling.specs.Streams.{yOf, encOf, highsOf};
+ghost use Rattle.sampling.specs.Streams.{encOf, highsOf};
 ghost use Rattle.records.specs.Layout.{polynomial};
+ghost use Rattle.records.specs.Secret.{sOf, allE};
 ghost use Rattle.signatures.specs.Signature.{zInRange};
-ghost use Rattle.signing.specs.Attempt.{vOf, zFrom, wOf, wPasses, attempt};
+ghost use Rattle.sets.specs.SetI.{setI};
+ghost use Rattle.signing.specs.Attempt.{zFrom, wOf, wPasses, attempt};
 ghost use Rattle.signing.specs.Parts.{productOf, zWith, wOne, wWith};
-ghost use Rattle.signing.specs.Answers.{outcomeOf, keyWith};
-ghost use Rattle.signing.specs.Asks.{Multiplies, Absorbs, MakesZ, TestsOneW, TestsW, Commits, Responds, Places, Secrets};
+ghost use Rattle.signing.specs.Sign.{keyOf};
+ghost use Rattle.signing.specs.Tries.{Committed, Challenged, Responded, Concluded, Tries};
+ghost use Rattle.signing.specs.Asks.{Whole, Multiplies, Absorbs, MakesZ, TestsOneW, TestsW, Commits, Responds, RespondsKey, Concludes, Places, Attempts, Known};
 
-// v_1..v_k in a row, v_i = a_i y modulo q: yr holds y modulo q. a takes one a_i at a time.
-pub fn products(set: Numbers, seed_a: &[u8], yr: &[u32], a: &mut [u32], v: &mut [u32])
-    requires { ⌜ Multiplies set (now yr) (now a) (now v) ⌝ }
-    ensures { λ _. ⌜ now (v .exit) ≡ joined (set .k) (productOf set (now («seed_a» .entry)) (now (yr .entry))) ⌝ }
+// v_1..v_k in a row, v_i = a_i y modulo q: yr holds y modulo q.
+pub fn products(set: Numbers, a: &[u32], yr: &[u32], v: &mut [u32])
+    requires { ⌜ Multiplies set (now a) (now yr) (now v) ⌝ }
+    ensures { λ _. ⌜ now (v .exit) ≡ joined (set .k) (productOf set (now (a .entry)) (now (yr .entry))) ⌝ }
 {
     let n = set.n;
     let k = set.k;
-    let mut stream = sampling::drawn::start_a(set, seed_a);
     let mut i = 0;
     while i < k {
-        let after = sampling::drawn::next_a(set, stream, a);
-        stream = after;
         let start = n * i;
         let end = start + n;
-        ring::product::multiply(a, yr, set.q, &mut v[start..end]);
+        ring::product::multiply(&a[start..end], yr, set.q, &mut v[start..end]);
         i += 1;
     }
 }
@@ -135,29 +136,35 @@ pub fn make_z(set: Numbers, s: &[u8], y: &[i32], positions: &[u16], signs: &[i8]
 // What is made before c' is known: y of the counter, v_1..v_k, and the high parts of v_1..v_k, absorbed.
 fn commit(
     set: Numbers,
-    seed_a: &[u8],
-    rand: &[u8],
+    a: &[u32],
+    rand: &[u8; 32],
     counter: u16,
     y: &mut [i32],
     yr: &mut [u32],
-    a: &mut [u32],
     v: &mut [u32],
     bytes: &mut [u8],
 ) -> Highs
-    requires { ⌜ Commits set (now y) (now yr) (now a) (now v) (now bytes) ⌝ }
-    ensures y { λ _. ⌜ now (y .exit) ≡ yOf set (now (rand .entry)) counter ⌝ }
-    ensures v { λ _. ⌜ now (v .exit) ≡ joined (set .k) (vOf set (now («seed_a» .entry)) (yOf set (now (rand .entry)) counter)) ⌝ }
-    ensures state { λ r. ⌜ r .state ≡ absorbed (fresh (set .digit) 6) (map (twos 8) (highsOf set (vOf set (now («seed_a» .entry)) (yOf set (now (rand .entry)) counter)))) ⌝ }
-    ensures fit { λ r. ⌜ r .fit ≡ every fitsByte (highsOf set (vOf set (now («seed_a» .entry)) (yOf set (now (rand .entry)) counter))) ⌝ }
+    requires { ⌜ Commits set (now a) (now y) (now yr) (now v) (now bytes) ⌝ }
+    ensures { λ r. ⌜ Committed set (now (a .entry)) (now (rand .entry)) counter (now (y .exit)) (now (v .exit)) r ⌝ }
 {
     sampling::drawn::draw_y(set, rand, counter, y);
     ring::sums::residues_of(y, set.q, yr);
-    products(set, seed_a, yr, a, v);
+    products(set, a, yr, v);
     absorb_highs(set, v, bytes)
 }
 
+// c' of the high parts that were absorbed, G of the message and the record's g.
+fn challenge(set: Numbers, highs: Sponge, digest: &[u8], secret: &[u8], c: &mut [u8; 32])
+    requires { ⌜ Whole set (now secret) ⌝ }
+    ensures { λ _. ⌜ Challenged set highs (now (digest .entry)) (now (secret .entry)) (now (c .exit)) ⌝ }
+{
+    let start = records::secret::g_start(set);
+    let end = records::secret::secret_bytes(set);
+    sampling::digests::challenge_of(highs, digest, &secret[start..end], c);
+}
+
 // What follows once c' is known: z = y + s c, left in z, and whether z and then every w_i = v_i − e_i c pass their tests, with c = Enc(c').
-fn respond(
+fn respond_in(
     set: Numbers,
     s: &[u8],
     e: &[u8],
@@ -169,8 +176,7 @@ fn respond(
     z: &mut [i32],
 ) -> bool
     requires { ⌜ Responds set (now s) (now e) (now y) (now v) (now positions) (now signs) (now z) ⌝ }
-    ensures passes { λ r. ⌜ r ≡ (zInRange set (zFrom set (now (s .entry)) (now (y .entry)) (encOf set (now (c .entry)))) && eachBelow (set .k) (λ i. wPasses set (wOf set (now (e .entry)) (λ j. polynomial (set .n) j (now (v .entry))) (encOf set (now (c .entry))) i))) ⌝ }
-    ensures z { λ _. ⌜ now (z .exit) ≡ zFrom set (now (s .entry)) (now (y .entry)) (encOf set (now (c .entry))) ⌝ }
+    ensures { λ r. ⌜ Responded set (now (s .entry)) (now (e .entry)) (now (c .entry)) (now (y .entry)) (now (v .entry)) (now (z .exit)) r ⌝ }
 {
     sampling::drawn::draw_enc(set, c, positions, signs);
     make_z(set, s, y, positions, signs, z);
@@ -180,9 +186,39 @@ fn respond(
     w_tests(set, e, v, positions, signs, y)
 }
 
+// The same with the s and e_1..e_k of the secret record. Makes the places for c.
+fn respond(
+    set: Numbers,
+    secret: &[u8],
+    c: &[u8; 32],
+    y: &mut [i32],
+    v: &mut [u32],
+    z: &mut [i32],
+) -> bool
+    requires { ⌜ RespondsKey set (now secret) (now y) (now v) (now z) ⌝ }
+    ensures { λ r. ⌜ Responded set (sOf set (now (secret .entry))) (allE set (now (secret .entry))) (now (c .entry)) (now (y .entry)) (now (v .entry)) (now (z .exit)) r ⌝ }
+{
+    let h = set.h;
+    let mut positions = [0u16; 256];
+    let mut signs = [0i8; 256];
+    let middle = records::secret::e_start(set);
+    let end = records::secret::seed_a_start(set);
+    respond_in(
+        set,
+        &secret[2..middle],
+        &secret[middle..end],
+        c,
+        y,
+        v,
+        &mut positions[..h],
+        &mut signs[..h],
+        z,
+    )
+}
+
 // What an attempt comes to.
 pub enum Tried {
-    // every test passes: z and c' are the signature's
+    // every test passes: the signature record is written
     Passes,
     // a test does not pass
     Fails,
@@ -190,40 +226,112 @@ pub enum Tried {
     Overflows,
 }
 
-// Attempt number `counter`. Where it passes, z and c hold its z and c'. What else is lent is scratch.
-pub fn attempt(
+// What follows once the high parts are absorbed and fit: where the tests pass, the signature record is written, and else it stays.
+fn conclude(
     set: Numbers,
-    s: &[u8],
-    e: &[u8],
-    seed_a: &[u8],
-    g: &[u8],
-    digest: &[u8],
-    rand: &[u8],
-    counter: u16,
+    secret: &[u8],
+    digest: &[u8; 40],
+    highs: Sponge,
+    signature: &mut [u8],
     y: &mut [i32],
     yr: &mut [u32],
-    a: &mut [u32],
+    v: &mut [u32],
+    z: &mut [i32],
+) -> Tried
+    requires { ⌜ Concludes set (now secret) (now signature) (now y) (now yr) (now v) (now z) ⌝ }
+    ensures { λ r. ⌜ Concluded set highs (now (digest .entry)) (now (secret .entry)) (now (y .entry)) (now (v .entry)) (now (signature .entry)) (now (signature .exit)) r ⌝ }
+{
+    let mut c = [0u8; 32];
+    challenge(set, highs, digest, secret, &mut c);
+    if respond(set, secret, &c, y, v, z) {
+        signatures::write_checked(set, z, &c, signature, yr);
+        Tried::Passes
+    } else {
+        Tried::Fails
+    }
+}
+
+// Attempt number `counter`: where it passes, the signature record is written, and else it stays. a holds a_1..a_k. What else is lent
+// is scratch.
+fn attempt_in(
+    set: Numbers,
+    secret: &[u8],
+    a: &[u32],
+    digest: &[u8; 40],
+    rand: &[u8; 32],
+    counter: u16,
+    signature: &mut [u8],
+    y: &mut [i32],
+    yr: &mut [u32],
     v: &mut [u32],
     bytes: &mut [u8],
-    positions: &mut [u16],
-    signs: &mut [i8],
     z: &mut [i32],
-    c: &mut [u8],
 ) -> Tried
-    requires { ⌜ Secrets set (now s) (now e) ⌝ }
-    requires { ⌜ Places set (now y) (now yr) (now a) (now v) (now bytes) (now positions) (now signs) (now z) (now c) ⌝ }
-    ensures { λ r. ⌜ outcomeOf r (now (z .exit)) (now (c .exit)) ≡ attempt set (keyWith (now (s .entry)) (now (e .entry)) (now («seed_a» .entry)) (now (g .entry))) (now (digest .entry)) (now (rand .entry)) counter ⌝ }
+    requires { ⌜ Attempts set (now secret) (now a) (now signature) ⌝ }
+    requires { ⌜ Places set (now y) (now yr) (now v) (now bytes) (now z) ⌝ }
+    ensures { λ r. ⌜ Tries set (attempt set (keyOf set (now (secret .entry))) (now (digest .entry)) (now (rand .entry)) counter) (now (signature .entry)) (now (signature .exit)) r ⌝ }
 {
-    let highs = commit(set, seed_a, rand, counter, y, yr, a, v, bytes);
+    let highs = commit(set, a, rand, counter, y, yr, v, bytes);
     let fit = highs.fit;
     if !fit {
         return Tried::Overflows;
     }
     let state = highs.state;
-    sampling::digests::challenge_of(state, digest, g, c);
-    if respond(set, s, e, c, y, v, positions, signs, z) {
-        Tried::Passes
-    } else {
-        Tried::Fails
+    conclude(set, secret, digest, state, signature, y, yr, v, z)
+}
+
+// The same in set I: makes the scratch.
+fn attempt_i(
+    set: Numbers,
+    secret: &[u8],
+    a: &[u32],
+    digest: &[u8; 40],
+    rand: &[u8; 32],
+    counter: u16,
+    signature: &mut [u8],
+) -> Tried
+    requires { ⌜ set ≡ setI ⌝ }
+    requires { ⌜ Attempts set (now secret) (now a) (now signature) ⌝ }
+    ensures { λ r. ⌜ Tries set (attempt set (keyOf set (now (secret .entry))) (now (digest .entry)) (now (rand .entry)) counter) (now (signature .entry)) (now (signature .exit)) r ⌝ }
+{
+    let mut y = [0i32; SetI::N];
+    let mut yr = [0u32; SetI::N];
+    let mut v = [0u32; SetI::K * SetI::N];
+    let mut bytes = [0u8; SetI::N];
+    let mut z = [0i32; SetI::N];
+    attempt_in(
+        set,
+        secret,
+        a,
+        digest,
+        rand,
+        counter,
+        signature,
+        &mut y,
+        &mut yr,
+        &mut v,
+        &mut bytes,
+        &mut z,
+    )
+}
+
+// The same in every set that there is.
+pub fn attempt(
+    set: Numbers,
+    secret: &[u8],
+    a: &[u32],
+    digest: &[u8; 40],
+    rand: &[u8; 32],
+    counter: u16,
+    signature: &mut [u8],
+) -> Tried
+    requires { ⌜ Known set ⌝ }
+    requires { ⌜ Attempts set (now secret) (now a) (now signature) ⌝ }
+    ensures { λ r. ⌜ Tries set (attempt set (keyOf set (now (secret .entry))) (now (digest .entry)) (now (rand .entry)) counter) (now (signature .entry)) (now (signature .exit)) r ⌝ }
+{
+    let digit = set.digit;
+    match digit {
+        1 => attempt_i(set, secret, a, digest, rand, counter, signature),
+        _ => Tried::Fails,
     }
 }

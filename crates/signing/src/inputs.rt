@@ -9,7 +9,7 @@ ghost use Rattle.sets.specs.Limits.{budgetLimit};
 ghost use Rattle.records.specs.Layout.{seedBytes, secretBytes, signatureBytes};
 ghost use Rattle.signing.specs.Sign.{signTests};
 ghost use Rattle.signing.specs.Answers.{secretsTests, valueTests, inputsNumber};
-ghost use Rattle.signing.specs.Asks.{TestsSecrets, TestsValues, TestsInputs};
+ghost use Rattle.signing.specs.Asks.{Whole, TestsSecrets, SecretsLent};
 
 // What the tests answer.
 pub enum Inputs {
@@ -58,8 +58,8 @@ fn budget_fits(budget: u32) -> bool
     }
 }
 
-// Tests 5 to 7, of s and e_1..e_k.
-fn test_secrets(set: Numbers, s: &[u8], e: &[u8], slots: &mut [u32]) -> Inputs
+// Tests 5 to 7, of s and e_1..e_k. slots takes the h largest of one polynomial at a time.
+fn test_secrets_in(set: Numbers, s: &[u8], e: &[u8], slots: &mut [u32]) -> Inputs
     requires { ⌜ TestsSecrets set (now e) (now slots) ⌝ }
     ensures { λ r. ⌜ inputsNumber r ≡ answer (secretsTests set (now (s .entry)) (now (e .entry))) ⌝ }
 {
@@ -75,15 +75,19 @@ fn test_secrets(set: Numbers, s: &[u8], e: &[u8], slots: &mut [u32]) -> Inputs
     Inputs::Pass
 }
 
+// The same. Makes the places for the largest.
+fn test_secrets(set: Numbers, s: &[u8], e: &[u8]) -> Inputs
+    requires { ⌜ SecretsLent set (now e) ⌝ }
+    ensures { λ r. ⌜ inputsNumber r ≡ answer (secretsTests set (now (s .entry)) (now (e .entry))) ⌝ }
+{
+    let h = set.h;
+    let mut slots = [0u32; 256];
+    test_secrets_in(set, s, e, &mut slots[..h])
+}
+
 // Tests 2 to 7, of a secret record of the right length, a message of so many bytes and the budget.
-pub fn test_values(
-    set: Numbers,
-    secret: &[u8],
-    message: usize,
-    budget: u32,
-    slots: &mut [u32],
-) -> Inputs
-    requires { ⌜ TestsValues set (now secret) (now slots) ⌝ }
+pub fn test_values(set: Numbers, secret: &[u8], message: usize, budget: u32) -> Inputs
+    requires { ⌜ Whole set (now secret) ⌝ }
     ensures { λ r. ⌜ inputsNumber r ≡ answer (valueTests set (now (secret .entry)) message budget) ⌝ }
 {
     if !records::pieces::is_marked(set, 2, secret) {
@@ -97,7 +101,7 @@ pub fn test_values(
     }
     let at = records::secret::e_start(set);
     let end = records::secret::seed_a_start(set);
-    test_secrets(set, &secret[2..at], &secret[at..end], slots)
+    test_secrets(set, &secret[2..at], &secret[at..end])
 }
 
 // All tests, of a secret record, a message, r and a signature of so many bytes, and the budget.
@@ -108,13 +112,12 @@ pub fn test_inputs(
     r: usize,
     budget: u32,
     signature: usize,
-    slots: &mut [u32],
 ) -> Inputs
-    requires { ⌜ TestsInputs set (now slots) ⌝ }
+    requires { ⌜ Good set ⌝ }
     ensures { λ x. ⌜ inputsNumber x ≡ answer (signTests set (now (secret .entry)) message r budget signature) ⌝ }
 {
     if !lengths(set, secret.len(), r, signature) {
         return Inputs::Length;
     }
-    test_values(set, secret, message, budget, slots)
+    test_values(set, secret, message, budget)
 }

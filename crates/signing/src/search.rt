@@ -1,18 +1,20 @@
 // The search for the smallest counter whose attempt passes.
 use crate::attempt::Tried;
 use crate::attempt::attempt;
+use crate::row::draw_key;
 use sets::Numbers;
+use sets::SetI;
 ghost use mathlib.Core.Path.{_≡_};
-ghost use Prim.Native.Nat.{_≤_};
-ghost use Rattle.sets.specs.Limits.{budgetLimit};
+ghost use Rattle.sets.specs.SetI.{setI};
 ghost use Rattle.signing.specs.Attempt.{attempt};
 ghost use Rattle.signing.specs.Search.{search};
-ghost use Rattle.signing.specs.Answers.{foundOf, keyWith};
-ghost use Rattle.signing.specs.Asks.{Places, Secrets};
+ghost use Rattle.signing.specs.Sign.{keyOf};
+ghost use Rattle.signing.specs.Tries.{Finds};
+ghost use Rattle.signing.specs.Asks.{Searches, SearchesKey, Known};
 
 // What a search comes to.
 pub enum Searched {
-    // the smallest counter that passes: z and c' are its attempt's
+    // the smallest counter that passes: its signature record is written
     Found(u16),
     // no counter up to the budget passes
     Nothing,
@@ -20,54 +22,24 @@ pub enum Searched {
     Overflow,
 }
 
-// Tries the counters from 1 to the budget, one after another. Where one passes, z and c hold its z and c'. What else is lent is
-// scratch.
-pub fn search(
+// Tries the counters from 1 to the budget, one after another. a holds a_1..a_k.
+fn search(
     set: Numbers,
-    s: &[u8],
-    e: &[u8],
-    seed_a: &[u8],
-    g: &[u8],
-    digest: &[u8],
-    rand: &[u8],
+    secret: &[u8],
+    a: &[u32],
+    digest: &[u8; 40],
+    rand: &[u8; 32],
     budget: u32,
-    y: &mut [i32],
-    yr: &mut [u32],
-    a: &mut [u32],
-    v: &mut [u32],
-    bytes: &mut [u8],
-    positions: &mut [u16],
-    signs: &mut [i8],
-    z: &mut [i32],
-    c: &mut [u8],
+    signature: &mut [u8],
 ) -> Searched
-    requires { ⌜ Secrets set (now s) (now e) ⌝ }
-    requires { ⌜ Places set (now y) (now yr) (now a) (now v) (now bytes) (now positions) (now signs) (now z) (now c) ⌝ }
-    requires { ⌜ budget ≤ budgetLimit ⌝ }
-    ensures { λ r. ⌜ foundOf r (now (z .exit)) (now (c .exit)) ≡ search (attempt set (keyWith (now (s .entry)) (now (e .entry)) (now («seed_a» .entry)) (now (g .entry))) (now (digest .entry)) (now (rand .entry))) budget ⌝ }
+    requires { ⌜ Known set ⌝ }
+    requires { ⌜ Searches set (now secret) (now a) budget (now signature) ⌝ }
+    ensures { λ r. ⌜ Finds set (search (attempt set (keyOf set (now (secret .entry))) (now (digest .entry)) (now (rand .entry))) budget) (now (signature .entry)) (now (signature .exit)) r ⌝ }
 {
     let mut counter: u32 = 1;
     while counter <= budget {
         let number = counter as u16;
-        let tried = attempt(
-            set,
-            s,
-            e,
-            seed_a,
-            g,
-            digest,
-            rand,
-            number,
-            y,
-            yr,
-            a,
-            v,
-            bytes,
-            positions,
-            signs,
-            z,
-            c,
-        );
+        let tried = attempt(set, secret, a, digest, rand, number, signature);
         match tried {
             Tried::Passes => {
                 return Searched::Found(number);
@@ -81,4 +53,42 @@ pub fn search(
         }
     }
     Searched::Nothing
+}
+
+// The same in set I: a_1..a_k are drawn once.
+fn search_i(
+    set: Numbers,
+    secret: &[u8],
+    digest: &[u8; 40],
+    rand: &[u8; 32],
+    budget: u32,
+    signature: &mut [u8],
+) -> Searched
+    requires { ⌜ set ≡ setI ⌝ }
+    requires { ⌜ SearchesKey set (now secret) budget (now signature) ⌝ }
+    ensures { λ r. ⌜ Finds set (search (attempt set (keyOf set (now (secret .entry))) (now (digest .entry)) (now (rand .entry))) budget) (now (signature .entry)) (now (signature .exit)) r ⌝ }
+{
+    let mut a = [0u32; SetI::K * SetI::N];
+    draw_key(set, secret, &mut a);
+    search(set, secret, &a, digest, rand, budget, signature)
+}
+
+// The same in every set that there is.
+pub fn search_key(
+    set: Numbers,
+    secret: &[u8],
+    digest: &[u8; 40],
+    rand: &[u8; 32],
+    budget: u32,
+    signature: &mut [u8],
+) -> Searched
+    requires { ⌜ Known set ⌝ }
+    requires { ⌜ SearchesKey set (now secret) budget (now signature) ⌝ }
+    ensures { λ r. ⌜ Finds set (search (attempt set (keyOf set (now (secret .entry))) (now (digest .entry)) (now (rand .entry))) budget) (now (signature .entry)) (now (signature .exit)) r ⌝ }
+{
+    let digit = set.digit;
+    match digit {
+        1 => search_i(set, secret, digest, rand, budget, signature),
+        _ => Searched::Nothing,
+    }
 }

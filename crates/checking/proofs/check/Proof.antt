@@ -36,16 +36,10 @@ slice-aggregate-check-in-9 : tie.Need-slice-aggregate-check-in-9
 slice-aggregate-check-in-9 c = search needs
 
 check-in-requires : tie.Need-check-in-requires
-check-in-requires c κs =
-    let at-numbers = c .before .before .before .before .before .before .before .before .before in
-    scratch-i (at-numbers .numbers .ensures) refl refl refl refl refl refl refl refl refl
+check-in-requires c κs = search (scratch-i, needs)
 
 returns : tie.Need-returns
-returns c =
-    let called = c .before .before .before .before .before .before .before .before .before in
-    let numbers = called .before .before .before .before .before .before .before .before .before .before in
-    let start = numbers .before .before .before .before in
-    check-i (start .args .public .now) (start .args .message .now) (start .args .signature .now) (numbers .numbers .ensures) (called .check-in .ensures)
+returns c = search (check-i, needs)
 
 pub check-spec : {M : Type 1} → statement M
 check-spec =

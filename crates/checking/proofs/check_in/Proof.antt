@@ -15,10 +15,7 @@ same-length : tie.Need-same-length
 same-length c = search needs
 
 returns : tie.Need-returns
-returns c =
-    let start = c .before .before .before .before .before .before .before .before .before .before .before .before .before .before .before in
-    let tested = c .before .before .before in
-    refused (start .args .set) (start .args .public .now) (start .args .message .now) (start .args .signature .now) (tested .test-inputs .result) (c .match .keys2) (tested .test-inputs .ensures)
+returns c = search (refused, needs)
 
 check-tested-requires : tie.Need-check-tested-requires
 check-tested-requires c κs =
@@ -54,13 +51,7 @@ same-length-10 : tie.Need-same-length-10
 same-length-10 c = search needs
 
 returns-2 : tie.Need-returns-2
-returns-2 c =
-    let at-check-tested = c .before .before .before .before .before .before .before .before .before .before .before .before .before .before .before .before in
-    let told = c .before .before .before .before .before .before .before .before .before .before .before .before .before .before .before .before .before .before .before .before .before .before .before .before .before .before in
-    let tested = told .before .before .before .before in
-    let start = tested .before .before .before .before .before .before .before .before .before .before .before .before in
-    at-check-tested .check-tested .ensures
-    ∙ sym (check-goes-on (start .args .set) (start .args .public .now) (start .args .message .now) (start .args .signature .now) (accepted (told .enum-told .given .1) (tested .test-inputs .ensures)))
+returns-2 c = search (check-goes-on, accepted, needs)
 
 pub check-in-spec : {M : Type 1} → statement M
 check-in-spec =

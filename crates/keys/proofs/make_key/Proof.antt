@@ -21,19 +21,13 @@ slice-aggregate-make-key-in-4 : tie.Need-slice-aggregate-make-key-in-4
 slice-aggregate-make-key-in-4 c = search needs
 
 make-key-in-requires : tie.Need-make-key-in-requires
-make-key-in-requires c κs =
-    let at-numbers = c .before .before .before .before .before .before in
-    scratch-i (at-numbers .numbers .ensures) refl refl refl refl
+make-key-in-requires c κs = search (scratch-i, needs)
 
 same-length : tie.Need-same-length
-same-length c =
-    let at-make-key-in = c .before .before .before .before .before .before .before .before in
-    at-make-key-in .make-key-in .kept .1 .1 .1 .1 .1 .0
+same-length c = search needs
 
 same-length-2 : tie.Need-same-length-2
-same-length-2 c =
-    let at-make-key-in = c .before .before .before .before .before .before .before .before in
-    at-make-key-in .make-key-in .kept .1 .1 .1 .1 .1 .1 .0
+same-length-2 c = search needs
 
 returns : tie.Need-returns
 returns c =

@@ -8,16 +8,13 @@ use Rattle.keys.proofs.make_key_in.Statement.{statement}
 use Rattle.keys.proofs.make_key_in.Tie as tie
 
 test-inputs-requires : tie.Need-test-inputs-requires
-test-inputs-requires c κs =
-    let start = c .before .before .before .before .before .before .before .before .before .before .before in
-    let asked = start .pre in
-    record { good = asked .good; slots-long = asked .slots-long }
+test-inputs-requires c κs = search needs
 
 enum-told : tie.Need-enum-told
 enum-told c = search needs
 
 same-length : tie.Need-same-length
-same-length c = c .before .before .before .test-inputs .kept .1 .1 .1 .1 .1 .1 .1 .0
+same-length c = search (kept, needs)
 
 returns : tie.Need-returns
 returns c =
@@ -26,42 +23,25 @@ returns c =
     (number, (kept (tested .result) _ _ (c .match .keys2) number, kept (tested .result) _ _ (c .match .keys2) number))
 
 put-both-requires : tie.Need-put-both-requires
-put-both-requires c κs =
-    let told = c .before .before .before .before .before in
-    let tested = told .before .before .before .before in
-    let start = tested .before .before .before .before .before .before .before .before .before .before .before .before in
-    let a = start .args in
-    both-asks (a .set) (a .s .now) (a .e .now) (a .seed-a .now) (a .seed-y .now) (a .public .now) (a .secret .now) (start .pre) (done-number (told .enum-told .given .1) (tested .test-inputs .ensures))
+put-both-requires c κs = search (both-asks, done-number, needs)
 
 same-length-2 : tie.Need-same-length-2
-same-length-2 c =
-    let at-put-both = c .before .before .before .before .before .before .before .before .before .before in
-    at-put-both .put-both .kept .1 .1 .1 .1 .1 .0
+same-length-2 c = search (kept, needs)
 
 same-length-3 : tie.Need-same-length-3
-same-length-3 c =
-    let at-put-both = c .before .before .before .before .before .before .before .before .before .before in
-    at-put-both .put-both .kept .1 .1 .1 .1 .1 .1 .0
+same-length-3 c = search (kept, needs)
 
 same-length-4 : tie.Need-same-length-4
-same-length-4 c =
-    let at-put-both = c .before .before .before .before .before .before .before .before .before .before in
-    at-put-both .put-both .kept .1 .1 .1 .1 .1 .1 .1 .0
+same-length-4 c = search (kept, needs)
 
 same-length-5 : tie.Need-same-length-5
-same-length-5 c =
-    let at-put-both = c .before .before .before .before .before .before .before .before .before .before in
-    at-put-both .put-both .kept .1 .1 .1 .1 .1 .1 .1 .1 .0
+same-length-5 c = search (kept, needs)
 
 same-length-6 : tie.Need-same-length-6
-same-length-6 c =
-    let at-put-both = c .before .before .before .before .before .before .before .before .before .before in
-    at-put-both .put-both .kept .1 .1 .1 .1 .1 .1 .1 .1 .1 .0
+same-length-6 c = search (kept, needs)
 
 same-length-7 : tie.Need-same-length-7
-same-length-7 c =
-    let at-test-inputs = c .before .before .before .before .before .before .before .before .before .before .before .before .before .before .before .before .before .before .before .before in
-    at-test-inputs .test-inputs .kept .1 .1 .1 .1 .1 .1 .1 .0
+same-length-7 c = search (kept, needs)
 
 returns-2 : tie.Need-returns-2
 returns-2 c =

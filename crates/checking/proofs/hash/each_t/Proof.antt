@@ -1,5 +1,6 @@
 -- `checking::hash::each_t` meets its contract. The loop's invariant: the high parts of w_1..w_i are absorbed and tested, and every
 -- place has its length. Assumes nothing.
+use borrow.Author.Needs.{needs}
 use mathlib.Core.Path.{sym, _∙_}
 use Prim.Native.Nat.{_-_}
 use native.Mathlib.Omega.{arith}
@@ -15,25 +16,16 @@ abbrev μ-loop : tie.MeasureT-loop
 μ-loop set seed-a public zr positions signs t₀ a₀ w₀ tc₀ bytes₀ k highs₀ i₀ t a w tc bytes highs i = k - i
 
 no-highs-requires : tie.Need-no-highs-requires Inv-loop μ-loop
-no-highs-requires c κs =
-    let start = c .before .before .before .before .before .before .before .before .before in
-    start .pre .good
+no-highs-requires c κs = search needs
 
 loop-holds : tie.Need-loop-holds Inv-loop μ-loop
-loop-holds c =
-    let start = c .before .before .before .before .before .before .before .before .before .before in
-    turn-none (start .pre) (c .no-highs .ensures)
+loop-holds c = search (turn-none, needs)
 
 unpack-t-requires : tie.Need-unpack-t-requires Inv-loop μ-loop
-unpack-t-requires c κs =
-    let start = c .before .before .before .before .before .before .before .before .before .before .before .before .before in
-    turn-reads (start .pre) (c .before .before .loop .inv) (c .before .loop-test .taken)
+unpack-t-requires c κs = search (turn-reads, needs)
 
 one-t-requires : tie.Need-one-t-requires Inv-loop μ-loop
-one-t-requires c κs =
-    let at-unpack-t = c .before .before .before .before .before .before .before in
-    let turn = c .before .before .before .before .before .before .before .before .before in
-    turn-asks (turn .before .before .before .before .before .before .before .before .before .before .before .before .pre) (turn .before .loop .inv) (turn .loop-test .taken) (at-unpack-t .unpack-t .ensures)
+one-t-requires c κs = search (turn-asks, needs)
 
 add-i : tie.Need-add-i Inv-loop μ-loop
 add-i c =
@@ -41,9 +33,7 @@ add-i c =
     omega (arith, turn .loop-test .taken, turn .before .before .before .before .before .before .before .before .before .before .before .before .pre .good .k-few)
 
 loop-less : tie.Need-loop-less Inv-loop μ-loop
-loop-less c =
-    let at-loop-test = c .before .before .before .before .before .before .before .before .before .before .before .before .before .before .before .before .before .before in
-    omega (arith, at-loop-test .loop-test .taken)
+loop-less c = search needs
 
 loop-again : tie.Need-loop-again Inv-loop μ-loop
 loop-again c =
@@ -53,32 +43,22 @@ loop-again c =
     (made .one-t .kept .1 .1 .1 .1 .1 .1 .0) (made .one-t .kept .1 .1 .1 .1 .1 .1 .1 .0) (made .one-t .kept .1 .1 .1 .1 .1 .1 .1 .1 .0) (made .one-t .kept .1 .1 .1 .1 .1 .1 .1 .1 .1 .0)
 
 same-length : tie.Need-same-length Inv-loop μ-loop
-same-length c =
-    let start = c .before .before .before .before .before .before .before .before .before .before .before .before in
-    c .before .loop .inv .t-long ∙ sym (start .pre .t-long)
+same-length c = search needs
 
 same-length-2 : tie.Need-same-length-2 Inv-loop μ-loop
-same-length-2 c =
-    let start = c .before .before .before .before .before .before .before .before .before .before .before .before in
-    c .before .loop .inv .places .a-long ∙ sym (start .pre .places .a-long)
+same-length-2 c = search needs
 
 same-length-3 : tie.Need-same-length-3 Inv-loop μ-loop
-same-length-3 c =
-    let start = c .before .before .before .before .before .before .before .before .before .before .before .before in
-    c .before .loop .inv .places .w-long ∙ sym (start .pre .places .w-long)
+same-length-3 c = search needs
 
 same-length-4 : tie.Need-same-length-4 Inv-loop μ-loop
-same-length-4 c =
-    let start = c .before .before .before .before .before .before .before .before .before .before .before .before in
-    c .before .loop .inv .places .tc-long ∙ sym (start .pre .places .tc-long)
+same-length-4 c = search needs
 
 same-length-5 : tie.Need-same-length-5 Inv-loop μ-loop
-same-length-5 c =
-    let start = c .before .before .before .before .before .before .before .before .before .before .before .before in
-    c .before .loop .inv .places .bytes-long ∙ sym (start .pre .places .bytes-long)
+same-length-5 c = search needs
 
 returns : tie.Need-returns Inv-loop μ-loop
-returns c = turn-all (c .before .loop .inv) (c .loop-test .left)
+returns c = search (turn-all, needs)
 
 pub each-t-spec : {M : Type 1} → statement M
 each-t-spec =

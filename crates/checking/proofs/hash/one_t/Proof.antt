@@ -9,15 +9,10 @@ next-a-requires : tie.Need-next-a-requires
 next-a-requires c κs = search needs
 
 one-w-requires : tie.Need-one-w-requires
-one-w-requires c κs =
-    let start = c .before .before .before .before .before .before .before .before .before .before .before .before .before .before .before .before in
-    w-asks (start .pre) (c .before .before .before .before .before .next-a .ensures) (c .before .before .before .before .before .next-a .kept .1 .1 .0)
+one-w-requires c κs = search (w-asks, needs)
 
 high-bytes-requires : tie.Need-high-bytes-requires
-high-bytes-requires c κs =
-    let at-one-w = c .before .before .before .before .before .before in
-    let start = at-one-w .before .before .before .before .before .before .before .before .before .before .before .before .before .before .before .before .before in
-    highs-asks (start .pre) _ (at-one-w .one-w .ensures)
+high-bytes-requires c κs = search (highs-asks, needs)
 
 absorb-requires : tie.Need-absorb-requires
 absorb-requires c κs = search needs
@@ -35,10 +30,7 @@ same-length-4 : tie.Need-same-length-4
 same-length-4 c = search needs
 
 returns : tie.Need-returns
-returns c =
-    let high = c .before .before .before .before .before in
-    let drawn = high .before .before .before .before .before .before .before .before .before .before .before .before .before in
-    one-more (drawn .before .before .before .before .before .before .before .before .before .before .before .args .highs) _ (drawn .next-a .ensures) (high .before .before .before .before .before .before .before .one-w .ensures) (high .high-bytes .ensures .0) (high .high-bytes .ensures .1) (c .before .absorb .ensures) refl
+returns c = search (one-more, needs)
 
 pub one-t-spec : {M : Type 1} → statement M
 one-t-spec =

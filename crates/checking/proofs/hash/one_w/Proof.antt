@@ -5,20 +5,13 @@ use Rattle.checking.proofs.hash.one_w.Statement.{statement}
 use Rattle.checking.proofs.hash.one_w.Tie as tie
 
 multiply-requires : tie.Need-multiply-requires
-multiply-requires c κs =
-    let start = c .before .before .before .before .before .before .before in
-    product-asks (start .pre)
+multiply-requires c κs = search (product-asks, needs)
 
 times-requires : tie.Need-times-requires
-times-requires c κs =
-    let start = c .before .before .before .before .before .before .before .before .before .before .before in
-    sparse-asks (start .pre)
+times-requires c κs = search (sparse-asks, needs)
 
 subtract-requires : tie.Need-subtract-requires
-subtract-requires c κs =
-    let at-multiply = c .before .before .before .before .before .before .before .before in
-    let start = at-multiply .before .before .before .before .before .before .before .before in
-    subtract-asks (start .pre) (at-multiply .multiply .ensures) (c .before .before .before .before .times .ensures)
+subtract-requires c κs = search (subtract-asks, needs)
 
 same-length : tie.Need-same-length
 same-length c = search needs
@@ -27,11 +20,7 @@ same-length-2 : tie.Need-same-length-2
 same-length-2 c = search needs
 
 returns : tie.Need-returns
-returns c =
-    let at-times = c .before .before .before .before .before .before .before in
-    let at-multiply = at-times .before .before .before .before in
-    let start = at-multiply .before .before .before .before .before .before .before .before in
-    difference-is (start .pre) (at-multiply .multiply .ensures) (at-times .times .ensures) (c .before .before .subtract .ensures)
+returns c = search (difference-is, needs)
 
 pub one-w-spec : {M : Type 1} → statement M
 one-w-spec =

@@ -1,4 +1,5 @@
 -- `checking::hash::same_bytes` meets its contract. The loop's invariant: what is left to compare decides. Assumes nothing.
+use borrow.Author.Needs.{needs}
 use Prim.Native.Nat.{_-_}
 use native.Mathlib.Omega.{arith}
 use mathlib.Core.Path.{_≡_, refl, sym, _∙_}

@@ -14,17 +14,13 @@ same-length : tie.Need-same-length
 same-length c = search needs
 
 returns : tie.Need-returns
-returns c =
-    let tested = c .before .before .before in
-    t-refused (tested .before .before .before .before .pre) (tested .test-public .result) (c .match .keys2) (tested .test-public .ensures)
+returns c = search (t-refused, needs)
 
 same-length-2 : tie.Need-same-length-2
 same-length-2 c = search needs
 
 returns-2 : tie.Need-returns-2
-returns-2 c =
-    let tested = c .before .before .before .before in
-    t-done (tested .before .before .before .before .pre) (c .enum-told .given .1) (tested .test-public .ensures)
+returns-2 c = search (t-done, needs)
 
 pub t-passes-spec : {M : Type 1} → statement M
 t-passes-spec =

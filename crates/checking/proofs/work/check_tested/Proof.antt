@@ -24,10 +24,7 @@ part-check-hash-end : tie.Need-part-check-hash-end
 part-check-hash-end c = search needs
 
 check-hash-requires : tie.Need-check-hash-requires
-check-hash-requires c κs =
-    let at-z-residues = c .before .before .before .before .before .before .before .before .before .before .before .before .before in
-    let start = at-z-residues .before .before .before .before .before .before .before .before .before .before .before .before .before in
-    hash-asks (start .pre) (at-z-residues .z-residues .ensures)
+check-hash-requires c κs = search (hash-asks, needs)
 
 same-length : tie.Need-same-length
 same-length c = search needs

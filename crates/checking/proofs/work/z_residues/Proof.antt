@@ -8,9 +8,7 @@ unpack-z-requires : tie.Need-unpack-z-requires
 unpack-z-requires c κs = search needs
 
 residues-of-requires : tie.Need-residues-of-requires
-residues-of-requires c κs =
-    let start = c .before .before .before .before .before .before .before .before .before .before in
-    small-z (start .pre) _ (c .before .before .before .before .before .unpack-z .ensures .0) (c .before .before .before .before .before .unpack-z .kept .1 .1 .1 .0)
+residues-of-requires c κs = search (small-z, needs)
 
 same-length : tie.Need-same-length
 same-length c = search needs
@@ -19,10 +17,7 @@ same-length-2 : tie.Need-same-length-2
 same-length-2 c = search needs
 
 returns : tie.Need-returns
-returns c =
-    let start = c .before .before .before .before .before .before .before .before .before .before .before .before .before in
-    let read = c .before .before .before .before .before .before .before .before in
-    z-is (start .pre) (read .unpack-z .last .1 .1 .1 .0) (read .unpack-z .ensures .0) (read .unpack-z .kept .1 .1 .1 .0) (c .before .before .residues-of .ensures)
+returns c = search (z-is, needs)
 
 pub z-residues-spec : {M : Type 1} → statement M
 z-residues-spec =

@@ -8,9 +8,7 @@ next-a-requires : tie.Need-next-a-requires
 next-a-requires c κs = search needs
 
 sum-of-requires : tie.Need-sum-of-requires
-sum-of-requires c κs =
-    let start = c .before .before .before .before .before .before .before .before .before .before in
-    t-asks (start .pre) (c .before .before .before .before .next-a .ensures) (c .before .before .before .before .next-a .kept .1 .1 .0)
+sum-of-requires c κs = search (t-asks, needs)
 
 same-length : tie.Need-same-length
 same-length c = search needs
@@ -19,10 +17,7 @@ same-length-2 : tie.Need-same-length-2
 same-length-2 c = search needs
 
 returns : tie.Need-returns
-returns c =
-    let at-next-a = c .before .before .before .before .before .before .before in
-    let start = at-next-a .before .before .before .before .before .before in
-    one-more (start .args .sr .now) (start .args .e .now) (at-next-a .next-a .ensures) (c .before .before .sum-of .ensures)
+returns c = search (one-more, needs)
 
 pub next-t-spec : {M : Type 1} → statement M
 next-t-spec =

@@ -1,5 +1,6 @@
 -- `keys::public::put_t` meets its contract. The loop's invariant: t_1..t_i stand packed in their stretches, and the rest of the record is
 -- as it was. Assumes nothing.
+use borrow.Author.Needs.{needs}
 use mathlib.Core.Path.{sym, _∙_}
 use Prim.Native.Nat.{_+_, _*_, _-_, _≤_, _<_}
 use lib.ListN.{length}
@@ -16,14 +17,10 @@ abbrev μ-loop : tie.MeasureT-loop
 μ-loop set seed-a sr e a₀ t₀ public₀ n k draw₀ i₀ a t public draw i = k - i
 
 start-a-requires : tie.Need-start-a-requires Inv-loop μ-loop
-start-a-requires c κs =
-    let start = c .before .before .before .before .before .before in
-    start .pre .good
+start-a-requires c κs = search needs
 
 loop-holds : tie.Need-loop-holds Inv-loop μ-loop
-loop-holds c =
-    let start = c .before .before .before .before .before .before .before in
-    turn-none (start .pre) (c .start-a .ensures)
+loop-holds c = search (turn-none, needs)
 
 -- in the loop's body i is below k
 below-k : (c : tie.In-loop Inv-loop μ-loop) → c .before .loop .i < c .before .before .before .before .before .before .before .before .before .args .set .k
@@ -69,7 +66,7 @@ add-i c =
     omega (arith, below-k turn, turn .before .before .before .before .before .before .before .before .before .pre .good .k-few)
 
 loop-less : tie.Need-loop-less Inv-loop μ-loop
-loop-less c = omega (arith, below-k (c .before .before .before .before .before .before .before .before .before .before .before .before .before))
+loop-less c = search needs
 
 loop-again : tie.Need-loop-again Inv-loop μ-loop
 loop-again c =
@@ -78,23 +75,16 @@ loop-again c =
     turn-more (turn .before .before .before .before .before .before .before .before .before .pre) (turn .before .loop .inv) (below-k turn) _ (omega (arith, ends-inside turn)) (next .next-t .ensures) (omega arith) (next .next-t .kept .1 .1 .1 .1 .0) (c .before .before .pack-t .ensures)
 
 same-length : tie.Need-same-length Inv-loop μ-loop
-same-length c =
-    let start = c .before .before .before .before .before .before .before .before .before in
-    c .before .loop .inv .a-long ∙ sym (start .pre .a-long)
+same-length c = search needs
 
 same-length-2 : tie.Need-same-length-2 Inv-loop μ-loop
-same-length-2 c =
-    let start = c .before .before .before .before .before .before .before .before .before in
-    c .before .loop .inv .t-long ∙ sym (start .pre .t-long)
+same-length-2 c = search needs
 
 same-length-3 : tie.Need-same-length-3 Inv-loop μ-loop
-same-length-3 c =
-    written-length (c .before .loop .inv .done)
+same-length-3 c = search (written-length, needs)
 
 returns : tie.Need-returns Inv-loop μ-loop
-returns c =
-    let start = c .before .before .before .before .before .before .before .before .before in
-    turn-all (start .pre) (c .before .loop .inv) (omega (arith, c .loop-test .left))
+returns c = search (turn-all, needs)
 
 pub put-t-spec : {M : Type 1} → statement M
 put-t-spec =

@@ -1,5 +1,6 @@
 -- `keys::tests::each_e_passes` meets its contract. The loop's invariant: checkE passes for e_1..e_i, and there are still h places.
 -- Assumes nothing.
+use borrow.Author.Needs.{needs}
 use borrow.Author.Tests.{not-true, not-false}
 use mathlib.Core.Path.{_≡_, refl, sym, _∙_}
 use mathlib.Core.Bool.{true}
@@ -34,13 +35,13 @@ part-sum-passes-start : tie.Need-part-sum-passes-start Inv-loop μ-loop
 part-sum-passes-start c = omega arith
 
 part-sum-passes-end : tie.Need-part-sum-passes-end Inv-loop μ-loop
-part-sum-passes-end c = part-inside (c .before .before .before .before .pre) (c .before .loop .i) (c .loop-test .taken)
+part-sum-passes-end c = search (part-inside, needs)
 
 sum-passes-requires : tie.Need-sum-passes-requires Inv-loop μ-loop
-sum-passes-requires c κs = few (c .before .before .before .before .before .before .pre) (c .before .before .before .loop .inv .1 .0)
+sum-passes-requires c κs = search (few, needs)
 
 same-length : tie.Need-same-length Inv-loop μ-loop
-same-length c = c .before .before .before .sum-passes .kept .1 .0 ∙ c .before .before .before .before .before .before .before .loop .inv .1 .0
+same-length c = search needs
 
 returns : tie.Need-returns Inv-loop μ-loop
 returns c =
@@ -66,7 +67,7 @@ loop-again c =
     )
 
 same-length-2 : tie.Need-same-length-2 Inv-loop μ-loop
-same-length-2 c = c .before .loop .inv .1 .0
+same-length-2 c = search needs
 
 returns-2 : tie.Need-returns-2 Inv-loop μ-loop
 returns-2 c = sym (each-passes (c .before .before .before .before .pre) (c .before .loop .inv .0) (omega arith) (c .before .loop .inv .1 .1))

@@ -15,16 +15,13 @@ mul-if2 : tie.Need-mul-if2
 mul-if2 c = omega (arith, row-few (c .before .before .before .pre))
 
 returns-2 : tie.Need-returns-2
-returns-2 c = and-same (c .before .before .if1 .left) (and-differs _ (c .if2 .taken))
+returns-2 c = search (and-same, and-differs, needs)
 
 returns-3 : tie.Need-returns-3
-returns-3 c =
-    and-same (c .before .before .before .if1 .left) (and-same (c .before .if2 .left) (and-differs _ (c .if3 .taken)))
+returns-3 c = search (and-same, and-differs, needs)
 
 returns-4 : tie.Need-returns-4
-returns-4 c =
-    let second = c .before .before in
-    and-same (second .before .before .if1 .left) (and-same (second .if2 .left) (and-same (c .before .if3 .left) (and-differs _ (c .if4 .taken))))
+returns-4 c = search (and-same, and-differs, needs)
 
 public-bytes-requires : tie.Need-public-bytes-requires
 public-bytes-requires c κs = search needs

@@ -43,9 +43,7 @@ returns-2 c =
     sym (key-secret _ _ _ _ _ _ _ (lengths-hold (c .before .before)) (sym (c .before .both-in-range .ensures) ∙ not-true _ (c .if2 .taken)))
 
 sum-passes-requires : tie.Need-sum-passes-requires
-sum-passes-requires c κs =
-    let start = c .before .before .before .before .before .before .before .before .before .before in
-    record { few = omega (arith, start .pre .good .h-drawn, start .pre .slots-long) }
+sum-passes-requires c κs = search needs
 
 same-length : tie.Need-same-length
 same-length c = search needs

@@ -17,10 +17,10 @@ abbrev μ-loop : tie.MeasureT-loop
 μ-loop set v bytes₀ n k state₀ fit₀ i₀ bytes state fit i = k - i
 
 fresh-state-requires : tie.Need-fresh-state-requires Inv-loop μ-loop
-fresh-state-requires c κs = omega (arith, c .before .before .pre .good .digit-fits)
+fresh-state-requires c κs = search needs
 
 loop-holds : tie.Need-loop-holds Inv-loop μ-loop
-loop-holds c = absorbing-none (c .before .before .before .pre) (c .fresh-state .ensures)
+loop-holds c = search (absorbing-none, needs)
 
 mul-start : tie.Need-mul-start Inv-loop μ-loop
 mul-start c = omega (arith, row-inside (c .before .before .before .before .before .pre .good) (c .loop-test .taken))
@@ -43,8 +43,7 @@ part-high-bytes-end c =
     omega (arith, row-fits (start .args .set .n) (start .args .set .k) (c .before .loop .i) (c .loop-test .taken), start .pre .v-long)
 
 high-bytes-requires : tie.Need-high-bytes-requires Inv-loop μ-loop
-high-bytes-requires c κs =
-    absorbing-asks (c .before .before .before .loop .inv) (c .before .before .before .before .before .before .before .pre) (c .before .before .loop-test .taken)
+high-bytes-requires c κs = search (absorbing-asks, needs)
 
 absorb-requires : tie.Need-absorb-requires Inv-loop μ-loop
 absorb-requires c κs = search needs
@@ -56,13 +55,10 @@ loop-less : tie.Need-loop-less Inv-loop μ-loop
 loop-less c = omega arith
 
 loop-again : tie.Need-loop-again Inv-loop μ-loop
-loop-again c =
-    let turn = c .before .before .before .before .before .before .before in
-    let highs = c .before .before .before .before in
-    absorbing-more (turn .before .loop .inv) (turn .before .before .before .before .before .pre) (turn .loop-test .taken) (highs .high-bytes .ensures .0) (highs .high-bytes .ensures .1) (c .absorb .ensures)
+loop-again c = search (absorbing-more, needs)
 
 same-length : tie.Need-same-length Inv-loop μ-loop
-same-length c = c .before .loop .inv .room ∙ sym (c .before .before .before .before .before .pre .bytes-long)
+same-length c = search needs
 
 returns : tie.Need-returns Inv-loop μ-loop
 returns c = absorbing-all (c .before .loop .inv) (c .loop-test .left)

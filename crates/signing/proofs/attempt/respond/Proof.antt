@@ -1,23 +1,50 @@
 -- `signing::attempt::respond` meets its contract. Assumes nothing.
-use borrow.Author.Tests.{not-true, not-false}
-use Rattle.signing.proofs.AttemptSteps.{respond-draws, respond-makes, respond-z, respond-outside, respond-inside, respond-tests}
+use mathlib.Core.Path.{sym}
+use native.Mathlib.Omega.{arith}
+use lib.Seq.{length-take-le}
+use Rattle.signing.proofs.AttemptSteps.{key-responds, key-responded}
 use borrow.Author.Needs.{needs}
 use Rattle.signing.proofs.attempt.respond.Statement.{statement}
 use Rattle.signing.proofs.attempt.respond.Tie as tie
 
-draw-enc-requires : tie.Need-draw-enc-requires
-draw-enc-requires c κs =
-    let start = c .before .before .before .before .before .before .before in
-    respond-draws (start .pre)
+e-start-requires : tie.Need-e-start-requires
+e-start-requires c κs = search needs
 
-make-z-requires : tie.Need-make-z-requires
-make-z-requires c κs =
-    let at-draw-enc = c .before .before .before .before .before .before .before in
-    let start = at-draw-enc .before .before .before .before .before .before .before .before in
-    respond-makes (start .pre) (start .args .c .now) (at-draw-enc .draw-enc .ensures)
+seed-a-start-requires : tie.Need-seed-a-start-requires
+seed-a-start-requires c κs = search needs
 
-z-in-range-requires : tie.Need-z-in-range-requires
-z-in-range-requires c κs = search needs
+sub-respond-in : tie.Need-sub-respond-in
+sub-respond-in c = search needs
+
+part-respond-in-start : tie.Need-part-respond-in-start
+part-respond-in-start c = search needs
+
+part-respond-in-end : tie.Need-part-respond-in-end
+part-respond-in-end c = search needs
+
+sub-respond-in-2 : tie.Need-sub-respond-in-2
+sub-respond-in-2 c = search needs
+
+part-respond-in-start-2 : tie.Need-part-respond-in-start-2
+part-respond-in-start-2 c = search needs
+
+part-respond-in-end-2 : tie.Need-part-respond-in-end-2
+part-respond-in-end-2 c = search needs
+
+array-borrow-prefix-positions : tie.Need-array-borrow-prefix-positions
+array-borrow-prefix-positions c = search needs
+
+slice-aggregate-respond-in : tie.Need-slice-aggregate-respond-in
+slice-aggregate-respond-in c = sym (length-take-le _ _ (omega arith))
+
+array-borrow-prefix-signs : tie.Need-array-borrow-prefix-signs
+array-borrow-prefix-signs c = search needs
+
+slice-aggregate-respond-in-2 : tie.Need-slice-aggregate-respond-in-2
+slice-aggregate-respond-in-2 c = sym (length-take-le _ _ (omega arith))
+
+respond-in-requires : tie.Need-respond-in-requires
+respond-in-requires c κs = search (key-responds, length-take-le, needs)
 
 same-length : tie.Need-same-length
 same-length c = search needs
@@ -28,65 +55,27 @@ same-length-2 c = search needs
 same-length-3 : tie.Need-same-length-3
 same-length-3 c = search needs
 
-same-length-4 : tie.Need-same-length-4
-same-length-4 c = search needs
-
 returns : tie.Need-returns
-returns c =
-    let at-draw-enc = c .before .before .before .before .before .before .before .before .before .before .before .before in
-    let start = c .before .before .before .before .before .before .before .before .before .before .before .before .before .before .before .before .before .before .before .before in
-    let drawn = at-draw-enc .draw-enc .ensures in
-    let z = c .before .before .before .before .make-z .ensures in
-    (respond-outside (start .pre) (start .args .c .now) drawn z (c .before .z-in-range .ensures) (not-true _ (c .if1 .taken)), respond-z (start .pre) (start .args .c .now) drawn z)
-
-w-tests-requires : tie.Need-w-tests-requires
-w-tests-requires c κs =
-    let at-draw-enc = c .before .before .before .before .before .before .before .before .before .before .before .before .before .before .before .before in
-    let start = at-draw-enc .before .before .before .before .before .before .before .before in
-    respond-tests (start .pre) (start .args .c .now) (at-draw-enc .draw-enc .ensures)
-
-same-length-5 : tie.Need-same-length-5
-same-length-5 c = search needs
-
-same-length-6 : tie.Need-same-length-6
-same-length-6 c = search needs
-
-same-length-7 : tie.Need-same-length-7
-same-length-7 c = search needs
-
-same-length-8 : tie.Need-same-length-8
-same-length-8 c = search needs
-
-same-length-9 : tie.Need-same-length-9
-same-length-9 c = search needs
-
-returns-2 : tie.Need-returns-2
-returns-2 c =
-    let at-if1 = c .before .before .before .before .before .before .before .before in
-    let at-z-in-range = at-if1 .before in
-    let at-make-z = at-z-in-range .before .before .before in
-    let at-draw-enc = at-make-z .before .before .before .before .before .before .before .before in
-    let start = c .before .before .before .before .before .before .before .before .before .before .before .before .before .before .before .before .before .before .before .before .before .before .before .before .before .before .before .before in
-    let drawn = at-draw-enc .draw-enc .ensures in
-    let z = at-make-z .make-z .ensures in
-    (respond-inside (start .pre) (start .args .c .now) drawn z (at-z-in-range .z-in-range .ensures) (not-false _ (at-if1 .if1 .left)) (c .before .before .before .w-tests .ensures), respond-z (start .pre) (start .args .c .now) drawn z)
+returns c = search (key-responded, needs)
 
 pub respond-spec : {M : Type 1} → statement M
 respond-spec =
     tie.close
     (tie.spec
-    draw-enc-requires
-    make-z-requires
-    z-in-range-requires
+    e-start-requires
+    seed-a-start-requires
+    sub-respond-in
+    part-respond-in-start
+    part-respond-in-end
+    sub-respond-in-2
+    part-respond-in-start-2
+    part-respond-in-end-2
+    array-borrow-prefix-positions
+    slice-aggregate-respond-in
+    array-borrow-prefix-signs
+    slice-aggregate-respond-in-2
+    respond-in-requires
     same-length
     same-length-2
     same-length-3
-    same-length-4
-    returns
-    w-tests-requires
-    same-length-5
-    same-length-6
-    same-length-7
-    same-length-8
-    same-length-9
-    returns-2)
+    returns)

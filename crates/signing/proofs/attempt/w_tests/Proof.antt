@@ -1,5 +1,6 @@
 -- `signing::attempt::w_tests` meets its contract. The loop's invariant: w_1..w_i pass, and v_(i + 1)..v_k are as they were. The
 -- measure is the number of those left. Assumes nothing.
+use borrow.Author.Needs.{needs}
 use borrow.Author.Tests.{not-true, not-false}
 use mathlib.Core.Path.{sym, _∙_}
 use Prim.Native.Nat.{_-_}
@@ -17,7 +18,7 @@ abbrev μ-loop : tie.MeasureT-loop
 μ-loop set e v₀ positions signs ec₀ n k i₀ v ec i = k - i
 
 loop-holds : tie.Need-loop-holds Inv-loop μ-loop
-loop-holds c = testing-none (c .before .before .before .pre)
+loop-holds c = search (testing-none, needs)
 
 mul-start : tie.Need-mul-start Inv-loop μ-loop
 mul-start c = omega (arith, row-inside (c .before .before .before .before .before .pre .good) (c .loop-test .taken))
@@ -46,20 +47,16 @@ part-w-test-start-2 : tie.Need-part-w-test-start-2 Inv-loop μ-loop
 part-w-test-start-2 c = omega arith
 
 part-w-test-end-2 : tie.Need-part-w-test-end-2 Inv-loop μ-loop
-part-w-test-end-2 c = omega (arith, testing-fits (c .before .before .before .before .before .before .pre) (c .before .before .loop .inv) (c .before .loop-test .taken))
+part-w-test-end-2 c = search (testing-fits, needs)
 
 w-test-requires : tie.Need-w-test-requires Inv-loop μ-loop
-w-test-requires c κs = testing-asks (c .before .before .before .before .before .before .before .before .pre) (c .before .before .before .before .loop .inv) (c .before .before .before .loop-test .taken)
+w-test-requires c κs = search (testing-asks, needs)
 
 same-length : tie.Need-same-length Inv-loop μ-loop
-same-length c =
-    let at = c .before .before .before .before .before .before .before .before .before in
-    testing-back (at .before .before .before .before .pre) (at .loop .inv) (c .before .before .before .before .w-test .last .1 .1 .0) (c .before .before .before .before .before .before .before .before .loop-test .taken) (c .before .before .before .before .w-test .kept .1 .1 .0)
+same-length c = search (testing-back, needs)
 
 same-length-2 : tie.Need-same-length-2 Inv-loop μ-loop
-same-length-2 c =
-    let at = c .before .before .before .before .before .before .before .before .before in
-    c .before .before .before .before .w-test .kept .1 .1 .1 .1 .1 .0 ∙ at .loop .inv .room ∙ sym (at .before .before .before .before .pre .ec-long)
+same-length-2 c = search needs
 
 returns : tie.Need-returns Inv-loop μ-loop
 returns c =
@@ -73,16 +70,13 @@ loop-less : tie.Need-loop-less Inv-loop μ-loop
 loop-less c = omega arith
 
 loop-again : tie.Need-loop-again Inv-loop μ-loop
-loop-again c =
-    let at = c .before .before .before .before .before .before .before .before .before in
-    let tested = c .before .before .before .before .w-test in
-    testing-more (at .before .before .before .before .pre) (at .loop .inv) (c .before .before .before .before .w-test .last .1 .1 .0) _ (c .before .before .before .before .before .before .before .before .loop-test .taken) (tested .kept .1 .1 .0) (tested .kept .1 .1 .1 .1 .1 .0) (tested .ensures) (not-false _ (c .if1 .left))
+loop-again c = search (testing-more, not-false, needs)
 
 same-length-3 : tie.Need-same-length-3 Inv-loop μ-loop
-same-length-3 c = c .before .loop .inv .long
+same-length-3 c = search needs
 
 same-length-4 : tie.Need-same-length-4 Inv-loop μ-loop
-same-length-4 c = c .before .loop .inv .room ∙ sym (c .before .before .before .before .before .pre .ec-long)
+same-length-4 c = search needs
 
 returns-2 : tie.Need-returns-2 Inv-loop μ-loop
 returns-2 c = testing-all (c .before .before .before .before .before .pre) (c .before .loop .inv) (c .loop-test .left)
