@@ -12,8 +12,10 @@ use lib.Dec.{eqb}
 use lib.IntN.{ℤ}
 use lib.ListN.{length}
 use borrow.Author.Tests.{eqb-true, le-leb, lt-leb}
-use Rattle.whole.specs.Refusal.{answer, sameBytes, every}
-use Rattle.whole.specs.RefusalLaws.{both-first, both-second, same-first, same-rest, answer-pass, answer-fail, answer-none, answer-first, answer-rest, answer-before, answer-past}
+use Rattle.whole.specs.Every.{sameBytes, every}
+use Rattle.answers.specs.Tests.{answer}
+use Rattle.whole.specs.EveryLaws.{both-first, both-second, same-first, same-rest}
+use Rattle.answers.specs.TestLaws.{answer-pass, answer-fail, answer-none, answer-first, answer-rest, answer-before, answer-past}
 use Rattle.sets.specs.declared.Numbers.{Numbers}
 use Rattle.sets.specs.SetI.{setI, setI-good}
 use Rattle.sets.specs.Limits.{messageLimit}

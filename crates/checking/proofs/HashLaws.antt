@@ -14,8 +14,8 @@ use native.Mathlib.Omega.{arith}
 use lib.IntN.{ℤ, pos}
 use lib.ListN.{length, take}
 use Rattle.whole.specs.Below.{Below}
-use Rattle.whole.specs.Refusal.{every}
-use Rattle.whole.specs.RefusalLaws.{every-map, every-append}
+use Rattle.whole.specs.Every.{every}
+use Rattle.whole.specs.EveryLaws.{every-map, every-append}
 use Rattle.whole.specs.Table.{joined}
 use Rattle.whole.specs.Twos.{twos}
 use Rattle.shake.specs.Sponge.{blank, absorbed}

@@ -9,8 +9,8 @@ use lib.ListN.{length}
 use types.Run.{OneOf, miss}
 use denote.Enum.Declared.{tagOf}
 use borrow.Author.Tests.{eq-eqb}
-use Rattle.whole.specs.Refusal.{_orElse_, answer}
-use Rattle.whole.specs.RefusalLaws.{answer-pass, answer-first}
+use Rattle.answers.specs.Tests.{_orElse_, answer}
+use Rattle.answers.specs.TestLaws.{answer-pass, answer-first}
 use Rattle.sets.specs.declared.Numbers.{Numbers}
 use Rattle.records.specs.declared.KeyRecord.{KeyRecord}
 use Rattle.records.specs.declared.KeyRecord.the-variants.{Done, Length, Mark, Value}

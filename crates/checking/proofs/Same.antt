@@ -13,8 +13,8 @@ use lib.Dec.{eqb}
 use lib.ListN.{length, getD, drop, drop-of-length-le}
 use lib.Seq.{drop-cons}
 use borrow.Author.Tests.{eq-eqb, ne-eqb}
-use Rattle.whole.specs.Refusal.{sameBytes}
-use Rattle.whole.specs.RefusalLaws.{not-second}
+use Rattle.whole.specs.Every.{sameBytes}
+use Rattle.whole.specs.EveryLaws.{not-second}
 
 pub same-unlike : (xs ys : List ℕ) → (length xs ≡ length ys → ⊥) → sameBytes xs ys ≡ false
 unfolding sameBytes

@@ -15,8 +15,9 @@ use lib.IntN.{ℤ, pos, natAbs}
 use lib.ListN.{length, getD, take, drop, length-map}
 use Rattle.whole.specs.Below.{Below, Within}
 use Rattle.whole.specs.Residue.{residue-eq, same-refl, same-minus}
-use Rattle.whole.specs.Refusal.{answer, every}
-use Rattle.whole.specs.RefusalLaws.{every-at}
+use Rattle.whole.specs.Every.{every}
+use Rattle.answers.specs.Tests.{answer}
+use Rattle.whole.specs.EveryLaws.{every-at}
 use Rattle.whole.specs.Table.{joined-ext, table-ext}
 use Rattle.whole.specs.Twos.{twos, twos-all-below}
 use Rattle.shake.specs.Sponge.{absorbed, squeezed}
@@ -33,7 +34,8 @@ use Rattle.sampling.specs.StreamsLaws.{shake-below, encOf-length, encOf-signed}
 use Rattle.sampling.specs.SpongeLaws.{challenge-squeezed}
 use Rattle.sampling.specs.DrawnAsks.{AreDrawn}
 use Rattle.sampling.specs.Residues.{made-residues}
-use Rattle.records.specs.Layout.{seedBytes, tBytes, zBytes, publicBytes, signatureBytes}
+use Rattle.records.specs.Layout.{tBytes, zBytes, publicBytes, signatureBytes}
+use Rattle.sets.specs.Limits.{seedBytes}
 use Rattle.records.specs.Public.{tOf, seedAOf}
 use Rattle.signatures.specs.Signature.{zOf, challengeOf, zInRange}
 use Rattle.signatures.specs.Laws.{zOf-length}

@@ -13,7 +13,8 @@ use Rattle.sets.specs.Good.{Good}
 use Rattle.sampling.specs.declared.drawn.DrawA.{DrawA}
 use Rattle.sampling.specs.DrawA.{ValidA}
 use Rattle.sampling.specs.Residues.{Residues}
-use Rattle.records.specs.Layout.{marked, digestBytes, publicBytes, signatureBytes}
+use Rattle.records.specs.Layout.{marked, publicBytes, signatureBytes}
+use Rattle.sets.specs.Limits.{digestBytes}
 use Rattle.records.specs.Public.{tInRange, allT}
 use Rattle.signatures.specs.Signature.{zOf, zInRange}
 use Rattle.signatures.specs.Parts.{Room}

@@ -6,7 +6,8 @@ use Prim.Native.Nat.{ℕ, _*_}
 use lib.Dec.{eqb, leb}
 use lib.IntN.{ℤ, _-ℤ_}
 use lib.ListN.{length}
-use Rattle.whole.specs.Refusal.{Test, _orElse_, every, sameBytes}
+use Rattle.whole.specs.Every.{every, sameBytes}
+use Rattle.answers.specs.Tests.{Test, _orElse_}
 use Rattle.ring.specs.Product.{mul}
 use Rattle.ring.specs.Lists.{naturals, integers, residues}
 use Rattle.sets.specs.declared.Numbers.{Numbers}

@@ -9,7 +9,8 @@ use lib.IntN.{ℤ, pos, _-ℤ_}
 use lib.ListN.{length, take}
 use Rattle.whole.specs.Table.{joined}
 use Rattle.whole.specs.Twos.{twos}
-use Rattle.whole.specs.Refusal.{Test, _orElse_, every, sameBytes}
+use Rattle.whole.specs.Every.{every, sameBytes}
+use Rattle.answers.specs.Tests.{Test, _orElse_}
 use Rattle.shake.specs.Sponge.{absorbed}
 use Rattle.rounding.specs.Parts.{high}
 use Rattle.rounding.specs.Tests.{fitsByte}

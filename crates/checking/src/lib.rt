@@ -6,7 +6,7 @@ mod work;
 use sets::Numbers;
 use sets::SetI;
 ghost use mathlib.Core.Path.{_≡_};
-ghost use Rattle.whole.specs.Refusal.{answer};
+ghost use Rattle.answers.specs.Tests.{answer};
 ghost use Rattle.sets.specs.SetI.{setI};
 ghost use Rattle.checking.specs.Answers.{checkAnswerNumber};
 ghost use Rattle.checking.specs.Asks.{Scratch};

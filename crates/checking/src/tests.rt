@@ -6,7 +6,7 @@ use signatures::SignatureRecord;
 ghost use mathlib.Core.Path.{_≡_};
 ghost use mathlib.Core.Bool.{_&&_};
 ghost use lib.Dec.{eqb};
-ghost use Rattle.whole.specs.Refusal.{answer};
+ghost use Rattle.answers.specs.Tests.{answer};
 ghost use Rattle.sets.specs.Good.{Good};
 ghost use Rattle.records.specs.Layout.{marked, publicBytes, signatureBytes};
 ghost use Rattle.records.specs.Public.{allT, tInRange};

@@ -13,8 +13,8 @@ use native.Mathlib.Nat.{le-refl, le-trans}
 use native.Mathlib.Omega.{arith}
 use lib.Dec.{lit≤}
 use lib.IntN.{ℤ}
-use Rattle.whole.specs.Refusal.{Test, answer, after}
-use Rattle.whole.specs.RefusalLaws.{after-refused}
+use Rattle.answers.specs.Tests.{Test, answer, after}
+use Rattle.answers.specs.TestLaws.{after-refused}
 use Rattle.sets.specs.declared.Numbers.{Numbers}
 use Rattle.sampling.specs.Lent.{testsA, testsY, testsEnc}
 use Rattle.records.specs.Public.{readPublicTests, writePublicTests}

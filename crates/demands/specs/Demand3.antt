@@ -20,29 +20,28 @@ use lib.Dec.{leb, lit≤, lit<}
 use lib.ListN.{length}
 use lib.IntN.{ℤ, pos, negsuc, natAbs}
 use borrow.Author.Tests.{leb-true, lt-ltb}
-use Rattle.whole.specs.Refusal.{_orElse_, answer, every}
-use Rattle.whole.specs.RefusalLaws.{same-first, same-rest, answer-first, answer-rest, every-joined, every-map, every-always, eachBelow-all, answer-most}
+use Rattle.whole.specs.Every.{every}
+use Rattle.answers.specs.Tests.{_orElse_, answer}
+use Rattle.whole.specs.EveryLaws.{same-first, same-rest, every-joined, every-map, every-always, eachBelow-all}
+use Rattle.answers.specs.TestLaws.{answer-first, answer-rest, answer-most}
 use Rattle.rounding.specs.Parts.{high, high-bound}
 use Rattle.rounding.specs.Tests.{fitsByte}
 use Rattle.sets.specs.declared.Numbers.{Numbers}
 use Rattle.sets.specs.Good.{Good}
-use Rattle.sets.specs.Limits.{messageLimit}
+use Rattle.sets.specs.Limits.{messageLimit, seedBytes}
 use Rattle.sets.specs.SetI.{setI, setI-good}
 use Rattle.sampling.specs.Streams.{messageDigest, keyDigest, randOf, yOf, challenge, encOf, highsOf}
 use Rattle.sampling.specs.StreamsLaws.{shake-length}
-use Rattle.records.specs.Layout.{seedBytes}
-use Rattle.records.specs.Public.{packedT}
+use Rattle.records.specs.Public.{packedT, tOf, seedAOf}
 use Rattle.records.specs.Secret.{secretSeedY}
 use Rattle.records.specs.SecretPlaces.{SecretLengths}
 use Rattle.records.specs.SecretLaws.{secret-s, secret-e, secret-seedA, secret-g}
-use Rattle.signatures.specs.Signature.{signatureRecord}
+use Rattle.signatures.specs.Signature.{signatureRecord, zOf, challengeOf}
 use Rattle.keys.specs.Key.{allKeyT, publicOf, secretOf, eachEPasses, makeKeyTests}
 use Rattle.signing.specs.Attempt.{Key, Outcome, passes, fails, overflows, attempt, tried, answered, attemptPasses, vOf, zFrom}
 use Rattle.signing.specs.Search.{Found, found, none, overflow}
 use Rattle.signing.specs.SearchLaws.{Stopped, found-smallest, none-fails, fails-none, overflow-somewhere}
 use Rattle.signing.specs.Sign.{keyOf, signTests, signSearch, signNumber, signSignature, signCounter}
-use Rattle.records.specs.Public.{tOf, seedAOf}
-use Rattle.signatures.specs.Signature.{zOf, challengeOf}
 use Rattle.checking.specs.Check.{checkTests, checkW, checkHighs}
 use Rattle.demands.specs.Holds.{madeKey, accepted}
 

@@ -12,8 +12,10 @@ use borrow.Author.Tests.{eq-eqb, leb-true, le-leb}
 use Rattle.whole.specs.Int.{int, minus-is, sum-is}
 use Rattle.whole.specs.Residue.{Same, same-eq, same-sym, same-trans, same-add, same-refl}
 use Rattle.whole.specs.Table.{joined-ext, joined-part}
-use Rattle.whole.specs.Refusal.{answer, every, eachBelow, sameBytes}
-use Rattle.whole.specs.RefusalLaws.{both, both-first, both-second, answer-pass, answer-none, every-at, eachBelow-at, same-refl-bytes}
+use Rattle.whole.specs.Every.{every, eachBelow, sameBytes}
+use Rattle.answers.specs.Tests.{answer}
+use Rattle.whole.specs.EveryLaws.{both, both-first, both-second, every-at, eachBelow-at, same-refl-bytes}
+use Rattle.answers.specs.TestLaws.{answer-pass, answer-none}
 use Rattle.rounding.specs.Parts.{high}
 use Rattle.rounding.specs.Tests.{lowPasses, sizePasses, fitsByte}
 use Rattle.ring.specs.Product.{mul}
@@ -22,12 +24,12 @@ use Rattle.ring.specs.Largest.{largest, sizes, sumPasses}
 use Rattle.ring.specs.Bound.{AtMost, bytes-bound}
 use Rattle.sets.specs.declared.Numbers.{Numbers}
 use Rattle.sets.specs.Good.{Good}
-use Rattle.sets.specs.Limits.{messageLimit}
+use Rattle.sets.specs.Limits.{messageLimit, seedBytes}
 use Rattle.sets.specs.GoodLaws.{q-some}
 use Rattle.sampling.specs.Positions.{polynomialOf}
 use Rattle.sampling.specs.StreamsLaws.{shake-length, encOf-small, encOf-total}
 use Rattle.sampling.specs.Streams.{aOf, yOf, encOf, challenge, messageDigest, keyDigest, highsOf}
-use Rattle.records.specs.Layout.{marked, seedBytes, publicBytes}
+use Rattle.records.specs.Layout.{marked, publicBytes}
 use Rattle.records.specs.Public.{packedT, tOf, allT, seedAOf}
 use Rattle.records.specs.Secret.{eOf}
 use Rattle.signatures.specs.Signature.{signatureRecord, zOf, challengeOf, zInRange}

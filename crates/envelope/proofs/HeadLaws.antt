@@ -17,8 +17,9 @@ use types.Run.{OneOf, miss}
 use denote.Enum.Declared.{tagOf}
 use borrow.Author.Tests.{eq-eqb, ne-eqb, eqb-true, eqb-false, le-leb, lt-leb}
 use Rattle.whole.specs.Parts.{part-length}
-use Rattle.whole.specs.Refusal.{Test, _orElse_, answer, after, every}
-use Rattle.whole.specs.RefusalLaws.{answer-pass, answer-fail, answer-none, answer-before, after-done, after-refused, output-new, output-kept, answer-past}
+use Rattle.whole.specs.Every.{every}
+use Rattle.answers.specs.Tests.{Test, _orElse_, answer, after}
+use Rattle.answers.specs.TestLaws.{answer-pass, answer-fail, answer-none, answer-before, after-done, after-refused, output-new, output-kept, answer-past}
 use Rattle.sets.specs.declared.Numbers.{Numbers}
 use Rattle.sets.specs.Good.{Good}
 use Rattle.sets.specs.Limits.{messageLimit}

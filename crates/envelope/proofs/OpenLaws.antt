@@ -3,7 +3,7 @@
 use mathlib.Core.Path.{_≡_, ap, ap₂, subst, _∙_}
 use mathlib.Core.List.{List}
 use Prim.Native.Nat.{ℕ, suc, _+_}
-use Rattle.whole.specs.Refusal.{answer, after}
+use Rattle.answers.specs.Tests.{answer, after}
 use Rattle.sets.specs.declared.Numbers.{Numbers}
 use Rattle.sets.specs.SetI.{setI}
 use Rattle.records.specs.Layout.{stretch, signatureBytes}

@@ -7,8 +7,8 @@ use lib.ListN.{length}
 use types.Run.{OneOf}
 use denote.Enum.Declared.{tagOf}
 use borrow.Author.Tests.{eq-eqb}
-use Rattle.whole.specs.Refusal.{_orElse_, answer, after}
-use Rattle.whole.specs.RefusalLaws.{answer-pass}
+use Rattle.answers.specs.Tests.{_orElse_, answer, after}
+use Rattle.answers.specs.TestLaws.{answer-pass}
 use Rattle.sets.specs.declared.Numbers.{Numbers}
 use Rattle.sets.specs.SetI.{setI}
 use Rattle.records.specs.Layout.{marked, stretch, signatureBytes}

@@ -10,8 +10,9 @@ use lib.ListN.{length, take, drop, length-append}
 use types.Run.{OneOf, miss}
 use denote.Enum.Declared.{tagOf}
 use borrow.Author.Tests.{le-leb, lt-leb}
-use Rattle.whole.specs.Refusal.{answer, after}
-use Rattle.whole.specs.RefusalLaws.{both-first, answer-pass, answer-fail, output-kept}
+use Rattle.answers.specs.Tests.{answer, after}
+use Rattle.whole.specs.EveryLaws.{both-first}
+use Rattle.answers.specs.TestLaws.{answer-pass, answer-fail, output-kept}
 use Rattle.whole.specs.Written.{Written, written-front, written-more, written-all}
 use Rattle.sets.specs.declared.Numbers.{Numbers}
 use Rattle.sets.specs.Limits.{messageLimit}

@@ -6,7 +6,7 @@ use mathlib.Core.List.{List, [], _∷_, _++_}
 use Prim.Native.Nat.{ℕ, _+_, _*_}
 use lib.Dec.{eqb, leb}
 use lib.ListN.{length, getD}
-use Rattle.whole.specs.Refusal.{Test, _orElse_, after}
+use Rattle.answers.specs.Tests.{Test, _orElse_, after}
 use Rattle.sets.specs.declared.Numbers.{Numbers}
 use Rattle.sets.specs.Limits.{messageLimit}
 use Rattle.sampling.specs.Streams.{twoBytes}

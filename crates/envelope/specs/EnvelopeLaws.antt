@@ -13,8 +13,9 @@ use lib.Seq.{take-all, take-at, drop-cons}
 use borrow.Author.Tests.{eq-eqb, eqb-true, le-leb, leb-true}
 use Rattle.whole.specs.Below.{Below}
 use Rattle.whole.specs.Parts.{part-length, part-second, part-last, parts-join}
-use Rattle.whole.specs.Refusal.{answer, after}
-use Rattle.whole.specs.RefusalLaws.{answer-pass, answer-none, answer-first, answer-rest, both-first, both-second}
+use Rattle.answers.specs.Tests.{answer, after}
+use Rattle.whole.specs.EveryLaws.{both-first, both-second}
+use Rattle.answers.specs.TestLaws.{answer-pass, answer-none, answer-first, answer-rest}
 use Rattle.sets.specs.declared.Numbers.{Numbers}
 use Rattle.sets.specs.Limits.{messageLimit}
 use Rattle.sampling.specs.Streams.{twoBytes}

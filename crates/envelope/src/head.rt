@@ -6,7 +6,7 @@ ghost use mathlib.Core.Path.{_≡_};
 ghost use Prim.Native.Nat.{_+_, _<_};
 ghost use lib.Dec.{eqb};
 ghost use lib.ListN.{length};
-ghost use Rattle.whole.specs.Refusal.{answer, after};
+ghost use Rattle.answers.specs.Tests.{answer, after};
 ghost use Rattle.sets.specs.Good.{Good};
 ghost use Rattle.envelope.specs.Answers.{readEnvelopeNumber, readEnvelopeTeam, readEnvelopeLength};
 ghost use Rattle.envelope.specs.Envelope.{envelopeBytes, numberAt, lengthOf, headTests, teamAnswered};

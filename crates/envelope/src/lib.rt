@@ -10,7 +10,7 @@ use signatures::SignatureRecord;
 ghost use mathlib.Core.Path.{_≡_};
 ghost use Prim.Native.Nat.{_+_};
 ghost use lib.ListN.{length};
-ghost use Rattle.whole.specs.Refusal.{answer, after};
+ghost use Rattle.answers.specs.Tests.{answer, after};
 ghost use Rattle.sets.specs.SetI.{setI};
 ghost use Rattle.records.specs.Layout.{stretch, signatureBytes};
 ghost use Rattle.signatures.specs.Answers.{signatureRecordNumber};

@@ -11,7 +11,7 @@ ghost use mathlib.Core.List.{_++_};
 ghost use Prim.Native.Nat.{_≤_};
 ghost use lib.Dec.{eqb};
 ghost use lib.ListN.{length, take, drop};
-ghost use Rattle.whole.specs.Refusal.{answer};
+ghost use Rattle.answers.specs.Tests.{answer};
 ghost use Rattle.sets.specs.Good.{Good};
 ghost use Rattle.sampling.specs.Streams.{twoBytes};
 ghost use Rattle.records.specs.Layout.{signatureBytes};

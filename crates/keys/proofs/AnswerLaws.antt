@@ -14,12 +14,14 @@ use lib.ListN.{length}
 use types.Run.{OneOf, miss}
 use denote.Enum.Declared.{tagOf}
 use borrow.Author.Tests.{eqb-true}
-use Rattle.whole.specs.Refusal.{answer, after}
-use Rattle.whole.specs.RefusalLaws.{same-first, same-rest, answer-pass, answer-fail, answer-none, answer-first, output-kept}
+use Rattle.answers.specs.Tests.{answer, after}
+use Rattle.whole.specs.EveryLaws.{same-first, same-rest}
+use Rattle.answers.specs.TestLaws.{answer-pass, answer-fail, answer-none, answer-first, output-kept}
 use Rattle.ring.specs.Largest.{sumPasses}
 use Rattle.sets.specs.declared.Numbers.{Numbers}
 use Rattle.sets.specs.SetI.{setI, setI-good}
-use Rattle.records.specs.Layout.{seedBytes, publicBytes, secretBytes}
+use Rattle.records.specs.Layout.{publicBytes, secretBytes}
+use Rattle.sets.specs.Limits.{seedBytes}
 use Rattle.records.specs.Secret.{inByteRange}
 use Rattle.keys.specs.declared.KeyAnswer.{KeyAnswer}
 use Rattle.keys.specs.declared.KeyAnswer.the-variants.{Done, Length, Secret, SumS, SumE}

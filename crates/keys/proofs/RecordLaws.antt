@@ -13,7 +13,8 @@ use Rattle.sets.specs.declared.Numbers.{Numbers}
 use Rattle.sets.specs.Good.{Good}
 use Rattle.sampling.specs.Streams.{allA, aOf, keyDigest}
 use Rattle.sampling.specs.Residues.{made-residues}
-use Rattle.records.specs.Layout.{mark, stretch, digestBytes, tBytes}
+use Rattle.records.specs.Layout.{mark, stretch, tBytes}
+use Rattle.sets.specs.Limits.{digestBytes}
 use Rattle.records.specs.Public.{packedT}
 use Rattle.records.specs.PublicLaws.{public-packed}
 use Rattle.records.specs.PublicPlaces.{PutsPublic}

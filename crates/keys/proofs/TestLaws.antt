@@ -6,8 +6,8 @@ use mathlib.Core.List.{List}
 use Prim.Native.Nat.{ℕ, _+_, _*_, _-_, _≤_, _<_}
 use native.Mathlib.Omega.{arith}
 use lib.ListN.{length, take, drop}
-use Rattle.whole.specs.Refusal.{eachBelow}
-use Rattle.whole.specs.RefusalLaws.{eachBelow-fails, eachBelow-end}
+use Rattle.whole.specs.Every.{eachBelow}
+use Rattle.whole.specs.EveryLaws.{eachBelow-fails, eachBelow-end}
 use Rattle.whole.specs.Rows.{row-fits}
 use Rattle.ring.specs.Largest.{sumPasses, Few}
 use Rattle.sets.specs.declared.Numbers.{Numbers}

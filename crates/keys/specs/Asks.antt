@@ -10,7 +10,8 @@ use Rattle.sets.specs.Good.{Good}
 use Rattle.sampling.specs.declared.drawn.DrawA.{DrawA}
 use Rattle.sampling.specs.DrawA.{ValidA}
 use Rattle.sampling.specs.Residues.{Residues}
-use Rattle.records.specs.Layout.{seedBytes, publicBytes, secretBytes}
+use Rattle.records.specs.Layout.{publicBytes, secretBytes}
+use Rattle.sets.specs.Limits.{seedBytes}
 
 -- what `sum_of` asks: a and s modulo q, one polynomial of signed bytes, and a place for t
 pub record ForT (set : Numbers) (a sr e t : List ℕ) : Type 0 where

@@ -7,13 +7,15 @@ use lib.Dec.{eqb}
 use lib.IntN.{_+ℤ_}
 use lib.ListN.{length}
 use Rattle.whole.specs.Table.{joined}
-use Rattle.whole.specs.Refusal.{Test, _orElse_, eachBelow}
+use Rattle.whole.specs.Every.{eachBelow}
+use Rattle.answers.specs.Tests.{Test, _orElse_}
 use Rattle.ring.specs.Product.{mul}
 use Rattle.ring.specs.Lists.{naturals, signedBytes, residues}
 use Rattle.ring.specs.Largest.{sumPasses}
 use Rattle.sets.specs.declared.Numbers.{Numbers}
 use Rattle.sampling.specs.Streams.{aOf, keyDigest}
-use Rattle.records.specs.Layout.{seedBytes, publicBytes, secretBytes}
+use Rattle.records.specs.Layout.{publicBytes, secretBytes}
+use Rattle.sets.specs.Limits.{seedBytes}
 use Rattle.records.specs.Public.{packedT, publicRecord}
 use Rattle.records.specs.Secret.{secretRecord, eOf, inByteRange}
 

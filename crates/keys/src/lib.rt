@@ -7,7 +7,7 @@ use sets::Numbers;
 use sets::SetI;
 ghost use mathlib.Core.Path.{_≡_};
 ghost use lib.ListN.{length};
-ghost use Rattle.whole.specs.Refusal.{answer, after};
+ghost use Rattle.answers.specs.Tests.{answer, after};
 ghost use Rattle.sets.specs.SetI.{setI};
 ghost use Rattle.keys.specs.Answers.{keyAnswerNumber};
 ghost use Rattle.keys.specs.Asks.{ForBoth, Scratch};

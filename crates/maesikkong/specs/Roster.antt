@@ -4,7 +4,7 @@
 use mathlib.Core.Path.{_≡_, refl}
 use mathlib.Core.List.{List}
 use Prim.Native.Nat.{ℕ, zero, suc}
-use Rattle.whole.specs.Refusal.{after}
+use Rattle.answers.specs.Tests.{after}
 use Rattle.records.specs.Layout.{stretch}
 use Rattle.envelope.specs.Envelope.{headBytes, lengthOf, rosterOf, rosterAnswered}
 

@@ -1,6 +1,6 @@
 // Checking.
 ghost use mathlib.Core.Path.{_≡_};
-ghost use Rattle.whole.specs.Refusal.{answer};
+ghost use Rattle.answers.specs.Tests.{answer};
 ghost use Rattle.sets.specs.SetI.{setI};
 ghost use Rattle.checking.specs.Check.{checkTests};
 

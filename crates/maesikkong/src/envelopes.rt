@@ -1,7 +1,7 @@
 // The envelope: written, read and opened. The roster that comes back is a stretch of the lent envelope, by its start and its length.
 ghost use mathlib.Core.Path.{_≡_};
 ghost use lib.ListN.{length};
-ghost use Rattle.whole.specs.Refusal.{answer, after};
+ghost use Rattle.answers.specs.Tests.{answer, after};
 ghost use Rattle.sets.specs.SetI.{setI};
 ghost use Rattle.envelope.specs.Envelope.{headBytes, envelopeOf, lengthOf, readTests, openTests, writeTests, teamAnswered};
 

@@ -1,7 +1,7 @@
 // Key making.
 ghost use mathlib.Core.Path.{_≡_};
 ghost use lib.ListN.{length};
-ghost use Rattle.whole.specs.Refusal.{answer, after};
+ghost use Rattle.answers.specs.Tests.{answer, after};
 ghost use Rattle.sets.specs.SetI.{setI};
 ghost use Rattle.keys.specs.Key.{publicOf, secretOf, makeKeyTests};
 

@@ -1,7 +1,7 @@
 // The public and the secret record: written from their values and read into them.
 ghost use mathlib.Core.Path.{_≡_};
 ghost use lib.ListN.{length};
-ghost use Rattle.whole.specs.Refusal.{answer, after};
+ghost use Rattle.answers.specs.Tests.{answer, after};
 ghost use Rattle.sets.specs.SetI.{setI};
 ghost use Rattle.records.specs.Public.{publicRecord, allT, seedAOf, readPublicTests, writePublicTests};
 ghost use Rattle.records.specs.Secret.{secretRecord, sOf, allE, secretSeedA, secretSeedY, secretG, readSecretTests, writeSecretTests};

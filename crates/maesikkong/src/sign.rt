@@ -1,7 +1,7 @@
 // Signing.
 ghost use mathlib.Core.Path.{_≡_};
 ghost use lib.ListN.{length};
-ghost use Rattle.whole.specs.Refusal.{answer};
+ghost use Rattle.answers.specs.Tests.{answer};
 ghost use Rattle.sets.specs.SetI.{setI};
 ghost use Rattle.signing.specs.Sign.{signTests, signSearch, signNumber, signCounter, signSignature};
 

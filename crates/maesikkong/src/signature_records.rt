@@ -1,7 +1,7 @@
 // The signature record: written from its values and read into them.
 ghost use mathlib.Core.Path.{_≡_};
 ghost use lib.ListN.{length};
-ghost use Rattle.whole.specs.Refusal.{answer, after};
+ghost use Rattle.answers.specs.Tests.{answer, after};
 ghost use Rattle.sets.specs.SetI.{setI};
 ghost use Rattle.signatures.specs.Signature.{signatureRecord, zOf, challengeOf, readSignatureTests, writeSignatureTests};
 

@@ -1,7 +1,7 @@
 // The candidate rules over a lent stream, and SHAKE256.
 ghost use mathlib.Core.Path.{_≡_};
 ghost use lib.ListN.{length};
-ghost use Rattle.whole.specs.Refusal.{answer, after};
+ghost use Rattle.answers.specs.Tests.{answer, after};
 ghost use Rattle.shake.specs.Shake256.{shake256};
 ghost use Rattle.sets.specs.SetI.{setI};
 ghost use Rattle.sampling.specs.Lent.{testsA, lentA, testsY, lentY, testsEnc, lentEnc};

@@ -11,8 +11,8 @@ use lib.Dec.{eqb}
 use borrow.Author.Tests.{eq-eqb, ne-eqb}
 use types.Run.{OneOf}
 use denote.Enum.Declared.{tagOf}
-use Rattle.whole.specs.Refusal.{Test, _orElse_, answer, after}
-use Rattle.whole.specs.RefusalLaws.{answer-pass, answer-fail, answer-none}
+use Rattle.answers.specs.Tests.{Test, _orElse_, answer, after}
+use Rattle.answers.specs.TestLaws.{answer-pass, answer-fail, answer-none}
 use Rattle.whole.specs.Determined.{one-to-one}
 use Rattle.records.specs.declared.KeyRecord.{KeyRecord}
 use Rattle.records.specs.declared.KeyRecord.the-variants.{Done, Length, Mark, Value}

@@ -10,17 +10,20 @@ use lib.ListN.{length, getD, take, drop, length-drop, length-append}
 use borrow.Author.Tests.{lt-ltb, le-ltb, eqb-true}
 use Rattle.whole.specs.Below.{below-more}
 use Rattle.whole.specs.Parts.{part-length}
-use Rattle.whole.specs.RefusalLaws.{Passing, passing-more, passing-fails, passing-all, every-joined, eachBelow-none, eachBelow-more, eachBelow-fails, both-first, answer-first, same-first, same-rest, eachBelow-end}
+use Rattle.whole.specs.EveryLaws.{Passing, passing-more, passing-fails, passing-all, every-joined, eachBelow-none, eachBelow-more, eachBelow-fails, both-first, same-first, same-rest, eachBelow-end}
+use Rattle.answers.specs.TestLaws.{answer-first}
 use Rattle.whole.specs.Written.{lent-rest, put-rest, Written, written-none, written-kept, written-length, written-more, written-all, put-part, written-front}
 use Rattle.packing.specs.Digits.{bytesFor, packed, unpacked, Packs, Unpacks}
 use Rattle.sets.specs.declared.Numbers.{Numbers}
 use Rattle.sets.specs.GoodLaws.{n-few, row-inside}
-use Rattle.records.specs.Layout.{tBytes, publicBytes, polynomial, mark, seedBytes}
+use Rattle.records.specs.Layout.{tBytes, publicBytes, polynomial, mark}
+use Rattle.sets.specs.Limits.{seedBytes}
 use Rattle.records.specs.PublicPlaces.{ReadsT, PacksT, ScansT, ReadsAllT, PacksAllT, TestsPublic, PutsPublic, TakesPublic}
 use Rattle.records.specs.Public.{tOf, allT, tInRange, packedT, publicRecord, seedAOf, readPublicTests}
 use Rattle.records.specs.SizeLaws.{stretch-fits}
 use native.Mathlib.Nat.{le-antisymm, mul-comm, add-sub-cancel-left}
-use Rattle.whole.specs.Refusal.{answer, eachBelow}
+use Rattle.whole.specs.Every.{eachBelow}
+use Rattle.answers.specs.Tests.{answer}
 use native.Mathlib.Numerals.{add-one}
 use lib.Seq.{length-take-le}
 use Rattle.whole.specs.Table.{joined, joined-length}

@@ -9,12 +9,14 @@ use lib.Dec.{eqb}
 use lib.ListN.{length, getD, take, drop, length-append}
 use lib.Seq.{length-take-le}
 use borrow.Author.Tests.{eq-eqb, ne-eqb, eqb-true}
-use Rattle.whole.specs.Refusal.{answer}
-use Rattle.whole.specs.RefusalLaws.{both-first, same-first, same-rest, answer-first, and-pass, not-first, Passing, passing-more, passing-fails, passing-all}
+use Rattle.answers.specs.Tests.{answer}
+use Rattle.whole.specs.EveryLaws.{both-first, same-first, same-rest, and-pass, not-first, Passing, passing-more, passing-fails, passing-all}
+use Rattle.answers.specs.TestLaws.{answer-first}
 use Rattle.whole.specs.Written.{Written, written-kept, written-front, written-more, written-take, written-all}
 use Rattle.sets.specs.declared.Numbers.{Numbers}
 use Rattle.sets.specs.Good.{Good}
-use Rattle.records.specs.Layout.{mark, seedBytes, digestBytes, secretBytes}
+use Rattle.records.specs.Layout.{mark, secretBytes}
+use Rattle.sets.specs.Limits.{seedBytes, digestBytes}
 use Rattle.records.specs.Secret.{secretRecord, sOf, allE, secretSeedA, secretSeedY, secretG, inByteRange, readSecretTests}
 use Rattle.records.specs.SecretPlaces.{SecretLengths, PutsSecret, PutsTail, TakesValues, TakesTail, TakesSecret}
 

@@ -7,6 +7,7 @@ use lib.Dec.{eqb}
 use lib.ListN.{getD, take, drop}
 use Rattle.packing.specs.Digits.{bytesFor}
 use Rattle.sets.specs.declared.Numbers.{Numbers}
+use Rattle.sets.specs.Limits.{seedBytes, digestBytes}
 
 -- the mark of record j, 1 to 4: 51 11 to 51 14 in set I
 abbrev pub mark : Numbers → ℕ → List ℕ
@@ -25,13 +26,6 @@ abbrev pub polynomial : {A : Type 0} → ℕ → ℕ → List A → List A
 polynomial n i xs = stretch (n * i) n xs
 
 -- ---- lengths
-
--- seeds, r, rand and c' are 32 bytes, digests of 40 bytes
-abbrev pub seedBytes : ℕ
-seedBytes = 32
-
-abbrev pub digestBytes : ℕ
-digestBytes = 40
 
 -- one packed t_i, and packed z
 abbrev pub tBytes : Numbers → ℕ

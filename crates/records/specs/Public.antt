@@ -6,10 +6,12 @@ use Prim.Native.Nat.{ℕ, _+_, _*_}
 use lib.Dec.{eqb, ltb}
 use lib.ListN.{length}
 use Rattle.whole.specs.Table.{joined}
-use Rattle.whole.specs.Refusal.{Test, _orElse_, every}
+use Rattle.whole.specs.Every.{every}
+use Rattle.answers.specs.Tests.{Test, _orElse_}
 use Rattle.packing.specs.Digits.{packed, unpacked}
 use Rattle.sets.specs.declared.Numbers.{Numbers}
-use Rattle.records.specs.Layout.{mark, marked, stretch, polynomial, seedBytes, tBytes, publicBytes}
+use Rattle.records.specs.Layout.{mark, marked, stretch, polynomial, tBytes, publicBytes}
+use Rattle.sets.specs.Limits.{seedBytes}
 
 -- t_1..t_k packed, each in its own stretch
 unfoldable pub packedT : Numbers → List ℕ → List ℕ

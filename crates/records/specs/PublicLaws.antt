@@ -14,14 +14,16 @@ use borrow.Author.Tests.{eq-eqb, eqb-true, lt-ltb, ltb-true}
 use Rattle.whole.specs.Below.{Below, below-more, below-part}
 use Rattle.whole.specs.Parts.{part-length, part-piece, part-last, part-part, parts-join, part-second}
 use Rattle.whole.specs.Table.{joined-ext, joined-length, joined-part, joined-parts}
-use Rattle.whole.specs.Refusal.{answer}
-use Rattle.whole.specs.RefusalLaws.{both, both-first, both-second, answer-pass, answer-none, answer-first, answer-rest, every-at, every-all}
+use Rattle.answers.specs.Tests.{answer}
+use Rattle.whole.specs.EveryLaws.{both, both-first, both-second, every-at, every-all}
+use Rattle.answers.specs.TestLaws.{answer-pass, answer-none, answer-first, answer-rest}
 use Rattle.whole.specs.Rows.{row-fits, row-within}
 use Rattle.packing.specs.Digits.{bytesFor, packed, unpacked}
 use Rattle.packing.specs.Laws.{packed-length, unpacked-length, unpacked-packed, packed-unpacked-whole}
 use Rattle.sets.specs.declared.Numbers.{Numbers}
 use Rattle.sets.specs.Good.{Good}
-use Rattle.records.specs.Layout.{mark, marked, stretch, polynomial, seedBytes, tBytes, publicBytes}
+use Rattle.records.specs.Layout.{mark, marked, stretch, polynomial, tBytes, publicBytes}
+use Rattle.sets.specs.Limits.{seedBytes}
 use Rattle.records.specs.Public.{packedT, publicRecord, tOf, allT, seedAOf, tInRange, readPublicTests}
 
 -- ---- marks

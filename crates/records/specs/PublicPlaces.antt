@@ -6,7 +6,8 @@ use lib.ListN.{length}
 use Rattle.whole.specs.Below.{Below}
 use Rattle.sets.specs.declared.Numbers.{Numbers}
 use Rattle.sets.specs.Good.{Good}
-use Rattle.records.specs.Layout.{seedBytes, publicBytes}
+use Rattle.records.specs.Layout.{publicBytes}
+use Rattle.sets.specs.Limits.{seedBytes}
 
 -- what `t_start` asks: one of t_1..t_k, or the place after them
 pub record StartsT (s : Numbers) (i : ℕ) : Type 0 where

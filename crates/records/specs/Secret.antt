@@ -5,9 +5,11 @@ use mathlib.Core.List.{List, [], _∷_, _++_}
 use Prim.Native.Nat.{ℕ, _+_, _*_}
 use lib.Dec.{eqb}
 use lib.ListN.{length}
-use Rattle.whole.specs.Refusal.{Test, _orElse_, every}
+use Rattle.whole.specs.Every.{every}
+use Rattle.answers.specs.Tests.{Test, _orElse_}
 use Rattle.sets.specs.declared.Numbers.{Numbers}
-use Rattle.records.specs.Layout.{mark, marked, stretch, polynomial, seedBytes, digestBytes, secretBytes}
+use Rattle.records.specs.Layout.{mark, marked, stretch, polynomial, secretBytes}
+use Rattle.sets.specs.Limits.{seedBytes, digestBytes}
 
 unfoldable pub secretRecord : Numbers → List ℕ → List ℕ → List ℕ → List ℕ → List ℕ → List ℕ
 secretRecord set s e seedA seedY g = mark set 2 ++ (s ++ (e ++ (seedA ++ (seedY ++ g))))

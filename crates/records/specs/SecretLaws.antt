@@ -11,10 +11,12 @@ use lib.ListN.{length, length-append}
 use lib.Seq.{take-all}
 use borrow.Author.Tests.{eq-eqb, eqb-true}
 use Rattle.whole.specs.Parts.{part-length, part-piece, part-last, part-second, parts-join}
-use Rattle.whole.specs.Refusal.{answer}
-use Rattle.whole.specs.RefusalLaws.{both, both-first, answer-pass, answer-none, answer-first, answer-rest}
+use Rattle.answers.specs.Tests.{answer}
+use Rattle.whole.specs.EveryLaws.{both, both-first}
+use Rattle.answers.specs.TestLaws.{answer-pass, answer-none, answer-first, answer-rest}
 use Rattle.sets.specs.declared.Numbers.{Numbers}
-use Rattle.records.specs.Layout.{mark, marked, stretch, seedBytes, digestBytes, secretBytes}
+use Rattle.records.specs.Layout.{mark, marked, stretch, secretBytes}
+use Rattle.sets.specs.Limits.{seedBytes, digestBytes}
 use Rattle.records.specs.Secret.{secretRecord, sOf, allE, secretSeedA, secretSeedY, secretG, inByteRange, readSecretTests}
 use Rattle.records.specs.SecretPlaces.{SecretLengths}
 use Rattle.records.specs.PublicLaws.{marked-mark, marked-front}

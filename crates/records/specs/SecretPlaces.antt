@@ -5,7 +5,8 @@ use Prim.Native.Nat.{ℕ, _*_}
 use lib.ListN.{length}
 use Rattle.sets.specs.declared.Numbers.{Numbers}
 use Rattle.sets.specs.Good.{Good}
-use Rattle.records.specs.Layout.{seedBytes, digestBytes, secretBytes}
+use Rattle.records.specs.Layout.{secretBytes}
+use Rattle.sets.specs.Limits.{seedBytes, digestBytes}
 
 -- the lengths of a record's values
 pub record SecretLengths (set : Numbers) (s e seedA seedY g : List ℕ) : Type 0 where

@@ -6,7 +6,7 @@ pub mod secret;
 use sets::SetI;
 ghost use mathlib.Core.Path.{_≡_};
 ghost use lib.ListN.{length};
-ghost use Rattle.whole.specs.Refusal.{answer, after};
+ghost use Rattle.answers.specs.Tests.{answer, after};
 ghost use Rattle.sets.specs.SetI.{setI};
 ghost use Rattle.records.specs.Answers.{keyRecordNumber};
 ghost use Rattle.records.specs.Public.{publicRecord, allT, seedAOf, readPublicTests, writePublicTests};

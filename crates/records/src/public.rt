@@ -8,11 +8,12 @@ ghost use mathlib.Core.List.{_++_};
 ghost use Prim.Native.Nat.{_+_, _*_, _<_};
 ghost use lib.Dec.{eqb};
 ghost use lib.ListN.{length, take, drop};
-ghost use Rattle.whole.specs.Refusal.{answer, after};
+ghost use Rattle.answers.specs.Tests.{answer, after};
 ghost use Rattle.packing.specs.Digits.{packed};
 ghost use Rattle.sets.specs.Good.{Good};
 ghost use Rattle.records.specs.Answers.{keyRecordNumber};
-ghost use Rattle.records.specs.Layout.{seedBytes, tBytes, publicBytes};
+ghost use Rattle.records.specs.Layout.{tBytes, publicBytes};
+ghost use Rattle.sets.specs.Limits.{seedBytes};
 ghost use Rattle.records.specs.Public.{publicRecord, packedT, tOf, allT, seedAOf, tInRange, publicTests, readPublicTests, writePublicTests};
 ghost use Rattle.records.specs.PublicPlaces.{StartsT, ReadsT, PacksT, ScansT, TestsPublic, ReadsAllT, PacksAllT, PutsPublic, TakesPublic};
 

@@ -10,10 +10,11 @@ ghost use mathlib.Core.List.{_++_};
 ghost use Prim.Native.Nat.{_+_, _*_};
 ghost use lib.Dec.{eqb};
 ghost use lib.ListN.{length, take};
-ghost use Rattle.whole.specs.Refusal.{answer, after};
+ghost use Rattle.answers.specs.Tests.{answer, after};
 ghost use Rattle.sets.specs.Good.{Good};
 ghost use Rattle.records.specs.Answers.{keyRecordNumber};
-ghost use Rattle.records.specs.Layout.{seedBytes, digestBytes, secretBytes};
+ghost use Rattle.records.specs.Layout.{secretBytes};
+ghost use Rattle.sets.specs.Limits.{seedBytes, digestBytes};
 ghost use Rattle.records.specs.Secret.{secretRecord, sOf, allE, secretSeedA, secretSeedY, secretG, inByteRange, secretTests, readSecretTests, writeSecretTests};
 ghost use Rattle.records.specs.SecretPlaces.{PutsSecret, PutsTail, TestsValues, TakesValues, TakesTail};
 

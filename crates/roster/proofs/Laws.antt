@@ -5,8 +5,8 @@ use mathlib.Core.List.{List}
 use Prim.Native.Nat.{ℕ, _-_, _≤_, _<_}
 use lib.ListN.{length, take, drop}
 use borrow.Author.Tests.{le-leb, lt-leb}
-use Rattle.whole.specs.Refusal.{answer, after}
-use Rattle.whole.specs.RefusalLaws.{answer-pass, answer-fail}
+use Rattle.answers.specs.Tests.{answer, after}
+use Rattle.answers.specs.TestLaws.{answer-pass, answer-fail}
 use Rattle.whole.specs.Written.{lent-rest}
 use Rattle.sets.specs.declared.Numbers.{Numbers}
 use Rattle.sets.specs.SetI.{setI}

@@ -12,8 +12,8 @@ use lib.ListN.{length, take, drop, length-take, length-drop}
 use lib.Seq.{getD-take, take-take, take-all, take-add, drop-at, length-take-le}
 use borrow.Author.Tests.{le-leb, leb-true, ne-eqb}
 use Rattle.whole.specs.Int.{lt-or-le}
-use Rattle.whole.specs.Refusal.{Test, _orElse_, answer}
-use Rattle.whole.specs.RefusalLaws.{answer-pass}
+use Rattle.answers.specs.Tests.{Test, _orElse_, answer}
+use Rattle.answers.specs.TestLaws.{answer-pass}
 use Rattle.sets.specs.declared.Numbers.{Numbers}
 use Rattle.sets.specs.Limits.{messageLimit}
 use Rattle.sets.specs.SetI.{setI}

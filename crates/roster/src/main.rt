@@ -3,7 +3,7 @@
 use envelope::Opened;
 use sets::SetI;
 ghost use mathlib.Core.Path.{_≡_};
-ghost use Rattle.whole.specs.Refusal.{answer, after};
+ghost use Rattle.answers.specs.Tests.{answer, after};
 ghost use Rattle.envelope.specs.Answers.{openedNumber, openedTeam, openedLength};
 ghost use Rattle.envelope.specs.Envelope.{lengthOf, teamAnswered};
 ghost use Rattle.roster.specs.Program.{programTests, envelopePart};

@@ -8,8 +8,8 @@ use Prim.Native.Nat.{ℕ, _+_, _≤_, _<_}
 use native.Mathlib.Numerals.{add-one}
 use lib.ListN.{length, getD, take}
 use lib.Seq.{take-suc, take-all}
-use Rattle.whole.specs.Refusal.{every}
-use Rattle.whole.specs.RefusalLaws.{every-append}
+use Rattle.whole.specs.Every.{every}
+use Rattle.whole.specs.EveryLaws.{every-append}
 
 -- `passed` says whether the first k of xs pass
 pub record Tested {A : Type 0} (p : A → Bool) (xs : List A) (passed : Bool) (k : ℕ) : Type 0 where

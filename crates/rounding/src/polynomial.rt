@@ -5,7 +5,7 @@ use crate::size_passes;
 ghost use mathlib.Core.Path.{_≡_};
 ghost use mathlib.Core.List.{map};
 ghost use lib.IntN.{pos};
-ghost use Rattle.whole.specs.Refusal.{every};
+ghost use Rattle.whole.specs.Every.{every};
 ghost use Rattle.whole.specs.Twos.{twos};
 ghost use Rattle.rounding.specs.Parts.{high};
 ghost use Rattle.rounding.specs.Tests.{lowPasses, sizePasses, fitsByte};

@@ -8,8 +8,8 @@ use lib.Dec.{leb}
 use lib.IntN.{ℤ}
 use lib.ListN.{length, take, length-map}
 use borrow.Author.Tests.{le-leb, lt-leb, eq-eqb, ne-eqb}
-use Rattle.whole.specs.Refusal.{_orElse_, answer, after}
-use Rattle.whole.specs.RefusalLaws.{answer-pass, answer-fail, answer-none, after-done, after-refused}
+use Rattle.answers.specs.Tests.{_orElse_, answer, after}
+use Rattle.answers.specs.TestLaws.{answer-pass, answer-fail, answer-none, after-done, after-refused}
 use Rattle.sets.specs.declared.Numbers.{Numbers}
 use Rattle.sampling.specs.declared.Taken.the-variants.{Done, Length}
 use Rattle.sampling.specs.Answers.{takenNumber}

@@ -5,7 +5,7 @@ use mathlib.Core.List.{List, [], _∷_, map}
 use Prim.Native.Nat.{ℕ, _+_, _*_}
 use lib.Dec.{leb, eqb}
 use lib.IntN.{ℤ}
-use Rattle.whole.specs.Refusal.{Test, _orElse_}
+use Rattle.answers.specs.Tests.{Test, _orElse_}
 use Rattle.sets.specs.declared.Numbers.{Numbers}
 use Rattle.sampling.specs.Candidates.{held, candidates}
 use Rattle.sampling.specs.Values.{values}

@@ -11,6 +11,7 @@ use Rattle.whole.specs.Twos.{twos}
 use Rattle.whole.specs.Table.{joined}
 use Rattle.sets.specs.declared.Numbers.{Numbers}
 use Rattle.sets.specs.Marks.{streamMark}
+use Rattle.sets.specs.Limits.{seedBytes, digestBytes}
 use Rattle.sampling.specs.Candidates.{candidates}
 use Rattle.sampling.specs.Values.{values}
 use Rattle.sampling.specs.Positions.{Drawn, positions, drawnCandidates}
@@ -50,15 +51,15 @@ yOf s rand counter =
 
 -- rand, from seed_y, r and G of the message
 unfoldable pub randOf : Numbers → List ℕ → List ℕ → List ℕ → List ℕ
-randOf s seedY r digest = stream s 3 (seedY ++ r ++ digest) 32
+randOf s seedY r digest = stream s 3 (seedY ++ r ++ digest) seedBytes
 
 -- G of the message
 unfoldable pub messageDigest : Numbers → List ℕ → List ℕ
-messageDigest s message = stream s 4 message 40
+messageDigest s message = stream s 4 message digestBytes
 
 -- g, of the packed t_1..t_k
 unfoldable pub keyDigest : Numbers → List ℕ → List ℕ
-keyDigest s packedT = stream s 5 packedT 40
+keyDigest s packedT = stream s 5 packedT digestBytes
 
 -- what H takes first: the high parts of k polynomials, i then coefficient: the signer's v_1..v_k, the receiver's w_1..w_k
 unfoldable pub highsOf : Numbers → (ℕ → List ℕ) → List ℤ
@@ -66,7 +67,7 @@ highsOf set v = joined (set .k) (λ i. map (λ x. high (set .q) (set .d) (pos x)
 
 -- H: c' from the high parts, one signed byte each, i then coefficient, G of the message, and g
 unfoldable pub challenge : Numbers → List ℤ → List ℕ → List ℕ → List ℕ
-challenge s highs digest g = stream s 6 (map (twos 8) highs ++ digest ++ g) 32
+challenge s highs digest g = stream s 6 (map (twos 8) highs ++ digest ++ g) seedBytes
 
 -- ---- 7: Enc: h positions with signs from c', 256 candidates of 3 bytes
 

@@ -1,5 +1,12 @@
--- The limits that no set changes. Assumes nothing: these are definitions.
+-- The lengths and limits that no set changes. Assumes nothing: these are definitions.
 use Prim.Native.Nat.{ℕ}
+
+-- seeds, r, rand and c' have 32 bytes, G of the message and g have 40
+abbrev pub seedBytes : ℕ
+seedBytes = 32
+
+abbrev pub digestBytes : ℕ
+digestBytes = 40
 
 -- the longest message, and the longest roster, in bytes
 abbrev pub messageLimit : ℕ

@@ -1,8 +1,10 @@
 -- Set I, qTESLA-p-I, and that its numbers are good. Assumes nothing.
 use mathlib.Core.Path.{refl, _≡_}
+use Prim.Native.Nat.{ℕ, _<_}
 use lib.Dec.{lit<, lit≤}
 use Rattle.sets.specs.declared.Numbers.{Numbers}
 use Rattle.sets.specs.Good.{Good}
+use Rattle.sets.specs.Marks.{fresh}
 
 abbrev pub setI : Numbers
 setI =
@@ -53,6 +55,13 @@ setI-good =
       digit-fits = lit< tt;
     }
 
--- what the code is handed as set I
+-- ---- what the code is handed as set I
+
+pub digit-fits-i : {set : Numbers} → set ≡ setI → set .digit < 16
+digit-fits-i e = rw e (lit< tt)
+
+pub fresh-i : {set : Numbers} (j : ℕ) → set ≡ setI → fresh (set .digit) j ≡ fresh 1 j
+fresh-i j e = rw e
+
 pub good-i : {set : Numbers} → set ≡ setI → Good set
 good-i e = rw e setI-good

@@ -4,8 +4,7 @@ ghost use mathlib.Core.Bool.{Bool, true};
 ghost use mathlib.Core.List.{[], _∷_};
 ghost use Prim.Native.Nat.{_<_};
 ghost use lib.ListN.{length};
-ghost use Rattle.shake.specs.Sponge.{xorAt, byteAt, blank, passed, absorbable, absorbed, ended, squeezable};
-ghost use Rattle.shake.specs.Sponge.{bytesOf, stateAfter, squeezed, afterSqueeze};
+ghost use Rattle.shake.specs.Sponge.{xorAt, byteAt, blank, passed, absorbable, absorbed, ended, squeezable, bytesOf, stateAfter, squeezed, afterSqueeze};
 
 // bytes of a block
 const RATE: usize = 136;

@@ -12,13 +12,15 @@ use lib.ListN.{length}
 use borrow.Author.Tests.{eq-eqb, ne-eqb, eqb-true}
 use denote.Enum.Declared.{tagOf}
 use types.Run.{OneOf, miss}
-use Rattle.whole.specs.Refusal.{answer, after}
-use Rattle.whole.specs.RefusalLaws.{both, not-first, not-second, answer-pass, answer-fail, answer-none, answer-first, answer-rest, after-done, after-refused, after-other}
+use Rattle.answers.specs.Tests.{answer, after}
+use Rattle.whole.specs.EveryLaws.{both, not-first, not-second}
+use Rattle.answers.specs.TestLaws.{answer-pass, answer-fail, answer-none, answer-first, answer-rest, after-done, after-refused, after-other}
 use Rattle.sets.specs.declared.Numbers.{Numbers}
 use Rattle.sets.specs.SetI.{setI}
 use Rattle.signatures.specs.declared.SignatureRecord.{SignatureRecord}
 use Rattle.signatures.specs.declared.SignatureRecord.the-variants.{Done, Length, Mark, Value}
-use Rattle.records.specs.Layout.{marked, seedBytes, signatureBytes}
+use Rattle.records.specs.Layout.{marked, signatureBytes}
+use Rattle.sets.specs.Limits.{seedBytes}
 use Rattle.signatures.specs.Signature.{signatureRecord, zOf, challengeOf, zInRange, readSignatureTests, writeSignatureTests}
 use Rattle.signatures.specs.Answers.{signatureRecordNumber}
 use Rattle.signatures.specs.Parts.{Room, Takes, WritesChecked, zBitsOf, frontTests, signatureTests}

@@ -14,8 +14,8 @@ use mir.Syntax.{w32, w64}
 use mir.Val.{Fits, SFits, toZ, ofZ}
 use mir.Facts.{toZ-ofZ, fits-natAbs}
 use Rattle.whole.specs.Int.{not-negative-is}
-use Rattle.whole.specs.Refusal.{every}
-use Rattle.whole.specs.RefusalLaws.{Passing, passing-none, passing-more, passing-fails, passing-all}
+use Rattle.whole.specs.Every.{every}
+use Rattle.whole.specs.EveryLaws.{Passing, passing-none, passing-more, passing-fails, passing-all}
 use Rattle.whole.specs.Twos.{signed, size-low, size-high}
 use Rattle.whole.specs.Words.{read-i64, one-shifted}
 use Rattle.rounding.specs.Tests.{zPasses}

@@ -13,8 +13,9 @@ use borrow.Author.Tests.{eq-eqb, ne-eqb}
 use Rattle.whole.specs.Below.{Below}
 use Rattle.whole.specs.Parts.{part-length}
 use Rattle.whole.specs.Written.{Written, written-front, written-more, written-all, written-length, lent-rest, put-rest}
-use Rattle.whole.specs.Refusal.{answer, after, every}
-use Rattle.whole.specs.RefusalLaws.{answer-pass, answer-fail, answer-none, after-done, after-refused}
+use Rattle.whole.specs.Every.{every}
+use Rattle.answers.specs.Tests.{answer, after}
+use Rattle.answers.specs.TestLaws.{answer-pass, answer-fail, answer-none, after-done, after-refused}
 use Rattle.whole.specs.Twos.{signed, twos, twos-all-below}
 use Rattle.rounding.specs.Tests.{zPasses}
 use Rattle.packing.specs.Digits.{bytesFor, packed, unpacked, Packs, Unpacks}

@@ -15,8 +15,9 @@ use Rattle.whole.specs.Int.{abs-le-to}
 use Rattle.whole.specs.Below.{Below, below-part}
 use Rattle.whole.specs.Parts.{part-length, part-piece, part-last, part-second, parts-join}
 use Rattle.whole.specs.Twos.{InBits, signed, twos, twos-all-below}
-use Rattle.whole.specs.Refusal.{answer}
-use Rattle.whole.specs.RefusalLaws.{both, both-first, answer-pass, answer-none, answer-first, answer-rest, every-at}
+use Rattle.answers.specs.Tests.{answer}
+use Rattle.whole.specs.EveryLaws.{both, both-first, every-at}
+use Rattle.answers.specs.TestLaws.{answer-pass, answer-none, answer-first, answer-rest}
 use Rattle.rounding.specs.Tests.{zPasses}
 use Rattle.packing.specs.Digits.{bytesFor, packed, unpacked}
 use Rattle.packing.specs.Laws.{packed-length, unpacked-length, unpacked-below, unpacked-packed, packed-unpacked-whole}
@@ -24,7 +25,8 @@ use Rattle.packing.specs.Twos.{AllInBits, signed-twos-all, twos-signed-all}
 use Rattle.sets.specs.declared.Numbers.{Numbers}
 use Rattle.sets.specs.Good.{Good}
 use Rattle.sets.specs.SetI.{setI, setI-good}
-use Rattle.records.specs.Layout.{mark, marked, stretch, seedBytes, zBytes, signatureBytes}
+use Rattle.records.specs.Layout.{mark, marked, stretch, zBytes, signatureBytes}
+use Rattle.sets.specs.Limits.{seedBytes}
 use Rattle.signatures.specs.Signature.{signatureRecord, zOf, challengeOf, zInRange, readSignatureTests}
 use Rattle.signatures.specs.Parts.{Room}
 use Rattle.records.specs.PublicLaws.{marked-mark, marked-front}

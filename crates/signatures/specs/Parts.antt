@@ -9,11 +9,12 @@ use lib.Dec.{eqb}
 use lib.IntN.{ℤ}
 use lib.ListN.{length}
 use Rattle.whole.specs.Below.{Below}
-use Rattle.whole.specs.Refusal.{Test, _orElse_}
+use Rattle.answers.specs.Tests.{Test, _orElse_}
 use Rattle.packing.specs.Digits.{unpacked}
 use Rattle.sets.specs.declared.Numbers.{Numbers}
 use Rattle.sets.specs.Good.{Good}
-use Rattle.records.specs.Layout.{marked, stretch, seedBytes, zBytes, signatureBytes}
+use Rattle.records.specs.Layout.{marked, stretch, zBytes, signatureBytes}
+use Rattle.sets.specs.Limits.{seedBytes}
 use Rattle.signatures.specs.Signature.{zOf, zInRange}
 
 -- the bits of each z of a record

@@ -6,12 +6,14 @@ use Prim.Native.Nat.{ℕ, _+_, _-_}
 use lib.Dec.{eqb}
 use lib.IntN.{ℤ}
 use lib.ListN.{length}
-use Rattle.whole.specs.Refusal.{Test, _orElse_, every}
+use Rattle.whole.specs.Every.{every}
+use Rattle.answers.specs.Tests.{Test, _orElse_}
 use Rattle.whole.specs.Twos.{signed, twos}
 use Rattle.rounding.specs.Tests.{zPasses}
 use Rattle.packing.specs.Digits.{packed, unpacked}
 use Rattle.sets.specs.declared.Numbers.{Numbers}
-use Rattle.records.specs.Layout.{mark, marked, stretch, seedBytes, zBytes, signatureBytes}
+use Rattle.records.specs.Layout.{mark, marked, stretch, zBytes, signatureBytes}
+use Rattle.sets.specs.Limits.{seedBytes}
 
 unfoldable pub signatureRecord : Numbers → List ℤ → List ℕ → List ℕ
 signatureRecord s z c′ = mark s 3 ++ (packed (s .«z_bits») (map (twos (s .«z_bits»)) z) ++ c′)

@@ -8,8 +8,8 @@ use lib.IntN.{ℤ}
 use lib.ListN.{length, getD, take, drop, length-map}
 use Rattle.whole.specs.Table.{joined}
 use Rattle.whole.specs.Below.{Below, below-part}
-use Rattle.whole.specs.Refusal.{every, eachBelow}
-use Rattle.whole.specs.RefusalLaws.{not-first, both-first, eachBelow-ext}
+use Rattle.whole.specs.Every.{every, eachBelow}
+use Rattle.whole.specs.EveryLaws.{not-first, both-first, eachBelow-ext}
 use Rattle.whole.specs.Twos.{twos, twos-all-below}
 use Rattle.rounding.specs.Tests.{fitsByte}
 use Rattle.ring.specs.Sparse.{sparse}
@@ -24,7 +24,8 @@ use Rattle.sampling.specs.Streams.{allA, aOf, yOf, encOf, challenge, highsOf}
 use Rattle.sampling.specs.StreamsLaws.{allA-length, allA-below, encOf-length, encOf-signed, yOf-length}
 use Rattle.sampling.specs.SpongeLaws.{challenge-squeezed}
 use Rattle.sampling.specs.DrawnAsks.{DrawEnc, AreDrawn}
-use Rattle.records.specs.Layout.{polynomial, seedBytes, digestBytes, secretBytes}
+use Rattle.records.specs.Layout.{polynomial, secretBytes}
+use Rattle.sets.specs.Limits.{seedBytes, digestBytes}
 use Rattle.records.specs.Secret.{sOf, allE, secretSeedA, secretG}
 use Rattle.signatures.specs.Signature.{zInRange, signatureRecord}
 use Rattle.signatures.specs.Parts.{WritesChecked}

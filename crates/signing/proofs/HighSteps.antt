@@ -8,8 +8,8 @@ use native.Mathlib.Numerals.{add-one}
 use lib.IntN.{ℤ, pos}
 use lib.ListN.{length, take, drop, length-map}
 use Rattle.whole.specs.Table.{joined}
-use Rattle.whole.specs.Refusal.{every}
-use Rattle.whole.specs.RefusalLaws.{every-append, every-map}
+use Rattle.whole.specs.Every.{every}
+use Rattle.whole.specs.EveryLaws.{every-append, every-map}
 use Rattle.whole.specs.Twos.{twos}
 use Rattle.whole.specs.Rows.{row-lent}
 use Rattle.rounding.specs.Parts.{high}

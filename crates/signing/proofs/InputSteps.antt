@@ -8,13 +8,14 @@ use lib.Dec.{eqb, leb}
 use lib.ListN.{length, take, drop}
 use borrow.Author.Tests.{le-leb, lt-leb}
 use Rattle.whole.specs.Parts.{part-length}
-use Rattle.whole.specs.Refusal.{answer}
-use Rattle.whole.specs.RefusalLaws.{answer-pass, answer-fail, answer-none, same-first, not-first}
+use Rattle.answers.specs.Tests.{answer}
+use Rattle.whole.specs.EveryLaws.{same-first, not-first}
+use Rattle.answers.specs.TestLaws.{answer-pass, answer-fail, answer-none}
 use Rattle.ring.specs.Largest.{sumPasses, Few}
 use Rattle.sets.specs.declared.Numbers.{Numbers}
 use Rattle.sets.specs.Good.{Good}
-use Rattle.sets.specs.Limits.{messageLimit, budgetLimit}
-use Rattle.records.specs.Layout.{marked, seedBytes, secretBytes, signatureBytes}
+use Rattle.sets.specs.Limits.{messageLimit, budgetLimit, seedBytes}
+use Rattle.records.specs.Layout.{marked, secretBytes, signatureBytes}
 use Rattle.records.specs.Secret.{sOf, allE, inByteRange}
 use Rattle.keys.specs.Key.{eachEPasses}
 use Rattle.signing.specs.Sign.{signTests}

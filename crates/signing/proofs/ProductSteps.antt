@@ -16,7 +16,7 @@ use Rattle.shake.specs.Sponge.{absorbed}
 use Rattle.sets.specs.declared.Numbers.{Numbers}
 use Rattle.sets.specs.Good.{Good}
 use Rattle.sets.specs.Marks.{fresh}
-use Rattle.whole.specs.Refusal.{every}
+use Rattle.whole.specs.Every.{every}
 use Rattle.whole.specs.Twos.{twos}
 use Rattle.rounding.specs.Tests.{fitsByte}
 use Rattle.signing.specs.declared.attempt.Highs.{Highs}

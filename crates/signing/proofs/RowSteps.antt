@@ -11,7 +11,7 @@ use Rattle.sampling.specs.DrawA.{StartedA, NextA, AfterA}
 use Rattle.sampling.specs.DrawALaws.{AtA, at-first, at-asks, at-written, at-next}
 use Rattle.sampling.specs.Streams.{allA, aOf}
 use Rattle.sampling.specs.StreamsLaws.{allA-length, aOf-length}
-use Rattle.records.specs.Layout.{seedBytes}
+use Rattle.sets.specs.Limits.{seedBytes}
 use Rattle.records.specs.Secret.{secretSeedA}
 use Rattle.signing.specs.Asks.{DrawsRow}
 use Rattle.signing.proofs.FillSteps.{Filling, filling-none, filling-length, filling-fits, filling-lent, filling-more, filling-all}

@@ -7,14 +7,15 @@ use native.Mathlib.Omega.{arith}
 use lib.Dec.{eqb, leb}
 use lib.ListN.{length, take, drop}
 use borrow.Author.Tests.{eqb-true, leb-true}
-use Rattle.whole.specs.Refusal.{answer}
-use Rattle.whole.specs.RefusalLaws.{answer-first, answer-rest, both-second, same-first, same-rest}
+use Rattle.answers.specs.Tests.{answer}
+use Rattle.whole.specs.EveryLaws.{both-second, same-first, same-rest}
+use Rattle.answers.specs.TestLaws.{answer-first, answer-rest}
 use Rattle.sets.specs.declared.Numbers.{Numbers}
 use Rattle.sets.specs.Good.{Good}
 use Rattle.sets.specs.SetI.{setI}
-use Rattle.sets.specs.Limits.{budgetLimit}
+use Rattle.sets.specs.Limits.{budgetLimit, seedBytes}
 use Rattle.sampling.specs.Streams.{messageDigest, randOf}
-use Rattle.records.specs.Layout.{seedBytes, secretBytes, signatureBytes}
+use Rattle.records.specs.Layout.{secretBytes, signatureBytes}
 use Rattle.records.specs.Secret.{secretSeedY}
 use Rattle.signing.specs.declared.search.Searched.{Searched}
 use Rattle.signing.specs.declared.SignAnswer.{SignAnswer}

@@ -15,8 +15,8 @@ use Rattle.whole.specs.Residue.{residue}
 use Rattle.whole.specs.Table.{table, length-table, getD-table, table-ext}
 use Rattle.whole.specs.Below.{Below, within-more, within-table}
 use Rattle.whole.specs.Twos.{signed, signed-size}
-use Rattle.whole.specs.Refusal.{every, eachBelow}
-use Rattle.whole.specs.RefusalLaws.{not-first, eachBelow-none, eachBelow-more, eachBelow-fails, eachBelow-end}
+use Rattle.whole.specs.Every.{every, eachBelow}
+use Rattle.whole.specs.EveryLaws.{not-first, eachBelow-none, eachBelow-more, eachBelow-fails, eachBelow-end}
 use Rattle.whole.specs.Rows.{row-fits, row-lent, row-next, back-length, back-rest}
 use Rattle.rounding.specs.Tests.{lowPasses, sizePasses}
 use Rattle.rounding.specs.Asks.{LowTests, SizeTests}

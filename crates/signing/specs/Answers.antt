@@ -5,7 +5,7 @@ use mathlib.Core.List.{List, [], _∷_}
 use mathlib.Core.Bool.{_&&_}
 use Prim.Native.Nat.{ℕ}
 use lib.Dec.{leb}
-use Rattle.whole.specs.Refusal.{Test, _orElse_}
+use Rattle.answers.specs.Tests.{Test, _orElse_}
 use Rattle.ring.specs.Largest.{sumPasses}
 use Rattle.sets.specs.declared.Numbers.{Numbers}
 use Rattle.sets.specs.Limits.{messageLimit, budgetLimit}

@@ -5,7 +5,7 @@ use mathlib.Core.List.{List}
 use Prim.Native.Nat.{ℕ}
 use lib.IntN.{ℤ, pos, _+ℤ_, _-ℤ_}
 use Rattle.whole.specs.Table.{table}
-use Rattle.whole.specs.Refusal.{every, eachBelow}
+use Rattle.whole.specs.Every.{every, eachBelow}
 use Rattle.rounding.specs.Tests.{lowPasses, sizePasses, fitsByte}
 use Rattle.ring.specs.Product.{mul}
 use Rattle.ring.specs.Lists.{naturals, integers, signedBytes, residues}

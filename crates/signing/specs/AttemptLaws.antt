@@ -11,8 +11,8 @@ use native.Mathlib.Omega.{arith}
 use lib.IntN.{ℤ}
 use lib.ListN.{length}
 use Rattle.whole.specs.Table.{length-table}
-use Rattle.whole.specs.Refusal.{every, eachBelow}
-use Rattle.whole.specs.RefusalLaws.{both-first, both-second}
+use Rattle.whole.specs.Every.{every, eachBelow}
+use Rattle.whole.specs.EveryLaws.{both-first, both-second}
 use Rattle.rounding.specs.Tests.{fitsByte}
 use Rattle.sets.specs.declared.Numbers.{Numbers}
 use Rattle.sampling.specs.Positions.{Drawn}

@@ -11,7 +11,7 @@ use Rattle.ring.specs.Lists.{naturals, integers, signedBytes, residues}
 use Rattle.sets.specs.declared.Numbers.{Numbers}
 use Rattle.records.specs.Layout.{polynomial}
 use Rattle.records.specs.Secret.{eOf}
-use Rattle.whole.specs.Refusal.{eachBelow}
+use Rattle.whole.specs.Every.{eachBelow}
 use Rattle.sampling.specs.Positions.{Drawn}
 use Rattle.signatures.specs.Signature.{zInRange}
 use Rattle.signing.specs.Attempt.{zFrom, wOf, wPasses}

@@ -5,12 +5,12 @@ use mathlib.Core.List.{List, [], _∷_}
 use Prim.Native.Nat.{ℕ, zero, suc}
 use lib.Dec.{eqb, leb}
 use lib.ListN.{length}
-use Rattle.whole.specs.Refusal.{Test, _orElse_}
+use Rattle.answers.specs.Tests.{Test, _orElse_}
 use Rattle.ring.specs.Largest.{sumPasses}
 use Rattle.sets.specs.declared.Numbers.{Numbers}
-use Rattle.sets.specs.Limits.{messageLimit, budgetLimit}
+use Rattle.sets.specs.Limits.{messageLimit, budgetLimit, seedBytes}
 use Rattle.sampling.specs.Streams.{messageDigest, randOf}
-use Rattle.records.specs.Layout.{marked, seedBytes, secretBytes, signatureBytes}
+use Rattle.records.specs.Layout.{marked, secretBytes, signatureBytes}
 use Rattle.records.specs.Secret.{sOf, allE, secretSeedA, secretSeedY, secretG, inByteRange}
 use Rattle.signatures.specs.Signature.{signatureRecord}
 use Rattle.keys.specs.Key.{eachEPasses}

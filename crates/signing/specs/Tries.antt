@@ -7,7 +7,7 @@ use Prim.Native.Nat.{ℕ}
 use lib.IntN.{ℤ}
 use lib.ListN.{length}
 use Rattle.whole.specs.Table.{joined}
-use Rattle.whole.specs.Refusal.{every}
+use Rattle.whole.specs.Every.{every}
 use Rattle.whole.specs.Twos.{twos}
 use Rattle.rounding.specs.Tests.{fitsByte}
 use Rattle.shake.specs.declared.Sponge.{Sponge}
@@ -15,7 +15,7 @@ use Rattle.shake.specs.Sponge.{absorbed}
 use Rattle.sets.specs.declared.Numbers.{Numbers}
 use Rattle.sets.specs.Marks.{fresh}
 use Rattle.sampling.specs.Streams.{yOf, encOf, challenge, highsOf}
-use Rattle.records.specs.Layout.{seedBytes}
+use Rattle.sets.specs.Limits.{seedBytes}
 use Rattle.records.specs.Secret.{sOf, allE, secretG}
 use Rattle.signatures.specs.Signature.{signatureRecord}
 use Rattle.signing.specs.declared.attempt.Highs.{Highs}

@@ -7,7 +7,7 @@ ghost use mathlib.Core.Bool.{_&&_};
 ghost use mathlib.Core.List.{map};
 ghost use Prim.Native.Nat.{_+_};
 ghost use Rattle.whole.specs.Table.{joined};
-ghost use Rattle.whole.specs.Refusal.{every, eachBelow};
+ghost use Rattle.whole.specs.Every.{every, eachBelow};
 ghost use Rattle.whole.specs.Twos.{twos};
 ghost use Rattle.rounding.specs.Tests.{fitsByte};
 ghost use Rattle.ring.specs.Sparse.{sparse};

@@ -13,7 +13,7 @@ ghost use mathlib.Core.Path.{_≡_};
 ghost use mathlib.Core.Bool.{false};
 ghost use lib.Dec.{eqb};
 ghost use lib.ListN.{length};
-ghost use Rattle.whole.specs.Refusal.{answer};
+ghost use Rattle.answers.specs.Tests.{answer};
 ghost use Rattle.sets.specs.SetI.{setI};
 ghost use Rattle.sampling.specs.Streams.{messageDigest, randOf};
 ghost use Rattle.records.specs.Secret.{secretSeedY};

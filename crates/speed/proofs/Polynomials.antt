@@ -9,7 +9,7 @@ use lib.Dec.{eqb}
 use lib.ListN.{length, drop, drop-of-length-le}
 use borrow.Author.Tests.{eqb-true}
 use Rattle.whole.specs.Below.{below-more}
-use Rattle.whole.specs.RefusalLaws.{same-first, same-rest, both-first, both-second}
+use Rattle.whole.specs.EveryLaws.{same-first, same-rest, both-first, both-second}
 use Rattle.packing.specs.Digits.{Packs, Unpacks, packed, unpacked, bytesFor}
 use Rattle.ring.specs.Asks.{Factors}
 use Rattle.ring.specs.Lists.{naturals, residues}

@@ -11,6 +11,6 @@ pub mod Bits
 pub mod Twos
 pub mod Words
 pub mod Raised
-pub mod Refusal
-pub mod RefusalLaws
+pub mod Every
+pub mod EveryLaws
 pub mod Determined

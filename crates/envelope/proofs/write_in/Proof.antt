@@ -1,7 +1,7 @@
 -- `envelope::write_in` meets its contract: a refusal leaves the envelope as it was, and where no test fails it is written.
 -- Assumes nothing.
 use mathlib.Core.Path.{sym}
-use Rattle.whole.specs.RefusalLaws.{output-new}
+use Rattle.answers.specs.TestLaws.{output-new}
 use Rattle.envelope.specs.EnvelopeLaws.{writable}
 use Rattle.envelope.proofs.WriteLaws.{kept, done-number}
 use borrow.Author.Needs.{needs}

@@ -2,7 +2,7 @@
 -- Assumes nothing.
 use mathlib.Core.Path.{sym}
 use borrow.Author.Needs.{needs}
-use Rattle.whole.specs.RefusalLaws.{output-new}
+use Rattle.answers.specs.TestLaws.{output-new}
 use Rattle.keys.proofs.AnswerLaws.{both-asks, kept, done-number}
 use Rattle.keys.proofs.make_key_in.Statement.{statement}
 use Rattle.keys.proofs.make_key_in.Tie as tie

@@ -4,7 +4,7 @@ use Prim.Native.Nat.{_-_}
 use native.Mathlib.Omega.{arith}
 use mathlib.Core.Path.{_≡_, refl, sym, _∙_}
 use lib.ListN.{length, drop}
-use Rattle.whole.specs.Refusal.{sameBytes}
+use Rattle.whole.specs.Every.{sameBytes}
 use Rattle.checking.proofs.Same.{same-unlike, same-step, same-differ, same-end}
 use Rattle.checking.proofs.hash.same_bytes.Statement.{statement}
 use Rattle.checking.proofs.hash.same_bytes.Tie as tie

@@ -2,7 +2,7 @@
 use borrow.Author.Needs.{needs}
 use mathlib.Core.Path.{sym, ap, _∙_}
 use lib.Dec.{eqb}
-use Rattle.whole.specs.RefusalLaws.{and-same, and-differs}
+use Rattle.whole.specs.EveryLaws.{and-same, and-differs}
 use Rattle.checking.proofs.tests.lengths.Statement.{statement}
 use Rattle.checking.proofs.tests.lengths.Tie as tie
 

@@ -1,7 +1,7 @@
 -- `checking::tests::marks` meets its contract. Assumes nothing.
 use borrow.Author.Needs.{needs}
 use mathlib.Core.Path.{sym, _∙_}
-use Rattle.whole.specs.RefusalLaws.{and-pass, not-first}
+use Rattle.whole.specs.EveryLaws.{and-pass, not-first}
 use Rattle.checking.proofs.tests.marks.Statement.{statement}
 use Rattle.checking.proofs.tests.marks.Tie as tie
 

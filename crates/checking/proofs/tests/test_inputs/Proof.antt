@@ -4,8 +4,7 @@ use borrow.Author.Tests.{not-true, not-false}
 use mathlib.Core.Path.{_≡_, sym, _∙_}
 use mathlib.Core.Bool.{true}
 use Rattle.records.specs.Public.{allT, tInRange}
-use Rattle.checking.proofs.AnswerLaws.{Lengths, Marks, range-asks, z-asks}
-use Rattle.checking.proofs.AnswerLaws.{input-length, input-mark, input-message, input-t, input-z, input-passes}
+use Rattle.checking.proofs.AnswerLaws.{Lengths, Marks, range-asks, z-asks, input-length, input-mark, input-message, input-t, input-z, input-passes}
 use Rattle.checking.proofs.tests.test_inputs.Statement.{statement}
 use Rattle.checking.proofs.tests.test_inputs.Tie as tie
 

@@ -1,6 +1,6 @@
 -- `envelope::writing::lengths` meets its contract. Assumes nothing.
 use mathlib.Core.Path.{sym, _∙_}
-use Rattle.whole.specs.RefusalLaws.{and-same, and-differs}
+use Rattle.whole.specs.EveryLaws.{and-same, and-differs}
 use borrow.Author.Needs.{needs}
 use Rattle.envelope.proofs.writing.lengths.Statement.{statement}
 use Rattle.envelope.proofs.writing.lengths.Tie as tie

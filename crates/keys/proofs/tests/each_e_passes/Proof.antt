@@ -7,8 +7,8 @@ use mathlib.Core.Bool.{true}
 use Prim.Native.Nat.{_≤_, _-_}
 use native.Mathlib.Omega.{arith}
 use lib.ListN.{length}
-use Rattle.whole.specs.Refusal.{eachBelow}
-use Rattle.whole.specs.RefusalLaws.{eachBelow-none, eachBelow-more}
+use Rattle.whole.specs.Every.{eachBelow}
+use Rattle.whole.specs.EveryLaws.{eachBelow-none, eachBelow-more}
 use Rattle.keys.proofs.TestLaws.{passesE, passes-part, part-inside, few, each-passes, each-refuses}
 use Rattle.keys.proofs.tests.each_e_passes.Statement.{statement}
 use Rattle.keys.proofs.tests.each_e_passes.Tie as tie

@@ -3,7 +3,7 @@ use borrow.Author.Needs.{needs}
 use mathlib.Core.Path.{sym, ap, _∙_}
 use native.Mathlib.Omega.{arith}
 use lib.Dec.{eqb}
-use Rattle.whole.specs.RefusalLaws.{and-same, and-differs}
+use Rattle.whole.specs.EveryLaws.{and-same, and-differs}
 use Rattle.sets.specs.GoodLaws.{row-few}
 use Rattle.keys.proofs.tests.lengths.Statement.{statement}
 use Rattle.keys.proofs.tests.lengths.Tie as tie

@@ -2,7 +2,7 @@
 use mathlib.Core.Path.{ap, _∙_}
 use Prim.Native.Nat.{ℕ}
 use borrow.Author.Needs.{needs}
-use Rattle.whole.specs.Refusal.{after}
+use Rattle.answers.specs.Tests.{after}
 use Rattle.envelope.specs.Envelope.{headBytes}
 use Rattle.maesikkong.proofs.envelopes.maesikkong_open_envelope.Statement.{statement}
 use Rattle.maesikkong.proofs.envelopes.maesikkong_open_envelope.Tie as tie

@@ -1,6 +1,6 @@
 -- `envelopes::start_with` meets its contract. Assumes nothing.
 use mathlib.Core.Path.{sym}
-use Rattle.whole.specs.RefusalLaws.{after-done, after-other}
+use Rattle.answers.specs.TestLaws.{after-done, after-other}
 use Rattle.envelope.specs.Envelope.{headBytes}
 use Rattle.maesikkong.proofs.envelopes.start_with.Statement.{statement}
 use Rattle.maesikkong.proofs.envelopes.start_with.Tie as tie

@@ -2,7 +2,7 @@
 use native.Mathlib.Omega.{arith}
 use mathlib.Core.Path.{ap}
 use lib.Dec.{eqb}
-use Rattle.whole.specs.RefusalLaws.{and-same, and-differs}
+use Rattle.whole.specs.EveryLaws.{and-same, and-differs}
 use borrow.Author.Needs.{needs}
 use Rattle.sets.specs.GoodLaws.{row-few}
 use Rattle.records.proofs.public.lengths.Statement.{statement}

@@ -3,7 +3,7 @@ use native.Mathlib.Omega.{arith}
 use Prim.Native.Nat.{_-_}
 use borrow.Author.Needs.{needs}
 use lib.ListN.{length}
-use Rattle.whole.specs.RefusalLaws.{passing-none}
+use Rattle.whole.specs.EveryLaws.{passing-none}
 use Rattle.records.proofs.PublicSteps.{Testing, testing-more, testing-fails, testing-all}
 use Rattle.records.proofs.public.t_in_range.Statement.{statement}
 use Rattle.records.proofs.public.t_in_range.Tie as tie

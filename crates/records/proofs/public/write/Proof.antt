@@ -1,6 +1,6 @@
 -- `records::public::write` meets its contract. Assumes nothing.
 use borrow.Author.Tests.{not-true, not-false}
-use Rattle.whole.specs.RefusalLaws.{output-new, output-kept}
+use Rattle.answers.specs.TestLaws.{output-new, output-kept}
 use Rattle.records.proofs.PublicSteps.{write-puts}
 use Rattle.records.proofs.AnswerLaws.{write-length, write-value, write-passes}
 use Rattle.records.specs.Public.{writePublicTests}

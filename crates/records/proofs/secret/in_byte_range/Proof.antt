@@ -2,7 +2,7 @@
 use native.Mathlib.Omega.{arith}
 use Prim.Native.Nat.{_-_}
 use lib.ListN.{length}
-use Rattle.whole.specs.RefusalLaws.{passing-none}
+use Rattle.whole.specs.EveryLaws.{passing-none}
 use Rattle.records.proofs.SecretSteps.{Testing, testing-more, testing-fails, testing-all}
 use Rattle.records.proofs.secret.in_byte_range.Statement.{statement}
 use Rattle.records.proofs.secret.in_byte_range.Tie as tie

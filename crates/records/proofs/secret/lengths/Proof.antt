@@ -1,6 +1,6 @@
 -- `records::secret::lengths` meets its contract. Assumes nothing.
 use native.Mathlib.Omega.{arith}
-use Rattle.whole.specs.RefusalLaws.{and-same, and-differs}
+use Rattle.whole.specs.EveryLaws.{and-same, and-differs}
 use mathlib.Core.Path.{ap}
 use lib.Dec.{eqb}
 use borrow.Author.Needs.{needs}

@@ -1,5 +1,5 @@
 -- `records::secret::read` meets its contract. Assumes nothing.
-use Rattle.whole.specs.RefusalLaws.{output-new}
+use Rattle.answers.specs.TestLaws.{output-new}
 use Rattle.records.proofs.AnswerLaws.{kept, done-number}
 use Rattle.records.proofs.SecretSteps.{read-takes, takes-values, takes-tail}
 use borrow.Author.Needs.{needs}

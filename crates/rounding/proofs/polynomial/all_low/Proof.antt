@@ -6,7 +6,7 @@ use native.Mathlib.Omega.{arith}
 use borrow.Author.Tests.{not-true, not-false}
 use lib.ListN.{length}
 use lib.IntN.{pos}
-use Rattle.whole.specs.RefusalLaws.{Passing, passing-none, passing-more, passing-fails, passing-all}
+use Rattle.whole.specs.EveryLaws.{Passing, passing-none, passing-more, passing-fails, passing-all}
 use Rattle.rounding.specs.Tests.{lowPasses}
 use Rattle.rounding.proofs.polynomial.all_low.Statement.{statement}
 use Rattle.rounding.proofs.polynomial.all_low.Tie as tie

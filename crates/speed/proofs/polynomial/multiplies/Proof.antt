@@ -1,7 +1,7 @@
 -- `multiplies` meets its contract. Assumes nothing.
 use mathlib.Core.Path.{sym, _∙_}
 use borrow.Author.Needs.{needs}
-use Rattle.whole.specs.RefusalLaws.{and-same, and-differs, and-pass, not-first}
+use Rattle.whole.specs.EveryLaws.{and-same, and-differs, and-pass, not-first}
 use Rattle.speed.proofs.polynomial.multiplies.Statement.{statement}
 use Rattle.speed.proofs.polynomial.multiplies.Tie as tie
 

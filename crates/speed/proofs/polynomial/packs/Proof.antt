@@ -1,7 +1,7 @@
 -- `packs` meets its contract. Assumes nothing.
 use mathlib.Core.Path.{sym, _∙_}
 use borrow.Author.Needs.{needs}
-use Rattle.whole.specs.RefusalLaws.{and-same, and-differs}
+use Rattle.whole.specs.EveryLaws.{and-same, and-differs}
 use Rattle.speed.proofs.polynomial.packs.Statement.{statement}
 use Rattle.speed.proofs.polynomial.packs.Tie as tie
 

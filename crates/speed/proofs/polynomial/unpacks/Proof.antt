@@ -2,7 +2,7 @@
 use mathlib.Core.Path.{ap}
 use lib.Dec.{eqb}
 use borrow.Author.Needs.{needs}
-use Rattle.whole.specs.RefusalLaws.{and-same, and-differs}
+use Rattle.whole.specs.EveryLaws.{and-same, and-differs}
 use Rattle.speed.proofs.polynomial.unpacks.Statement.{statement}
 use Rattle.speed.proofs.polynomial.unpacks.Tie as tie
 

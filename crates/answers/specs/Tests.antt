@@ -1,10 +1,10 @@
 -- How an entry answers: its tests stand in document 01's order, each with its number, and the answer is the number of the first
 -- test that fails, or 0. Where the answer is not 0 an output is as it was.
--- Assumes nothing.
-use mathlib.Core.Bool.{Bool, true, false, cond, _&&_}
+-- Assumes nothing: these are definitions.
+use mathlib.Core.Path.{_≡_}
+use mathlib.Core.Bool.{Bool, cond}
 use mathlib.Core.List.{List, [], _∷_}
 use Prim.Native.Nat.{ℕ, zero, suc}
-use lib.Dec.{eqb}
 
 pub record Test : Type 0 where
   -- whether the test passes
@@ -26,19 +26,10 @@ unfoldable pub after : {A : Type 0} → ℕ → A → A → A
 after zero new old = new
 after (suc number) new old = old
 
--- every element passes
-unfoldable pub every : {A : Type 0} → (A → Bool) → List A → Bool
-every p [] = true
-every p (x ∷ xs) = p x && every p xs
+-- the number that comes back is the answer of these tests
+pub record Answered (ts : List Test) (number : ℕ) : Type 0 where
+  pub is : number ≡ answer ts
 
--- p 0, .., p (k − 1) all pass
-unfoldable pub eachBelow : ℕ → (ℕ → Bool) → Bool
-eachBelow zero p = true
-eachBelow (suc k) p = eachBelow k p && p k
-
--- two lists of numbers are equal, as a test
-unfoldable pub sameBytes : List ℕ → List ℕ → Bool
-sameBytes [] [] = true
-sameBytes [] (y ∷ ys) = false
-sameBytes (x ∷ xs) [] = false
-sameBytes (x ∷ xs) (y ∷ ys) = eqb x y && sameBytes xs ys
+-- an output that held `old` holds `now` after the answer of these tests, where `new` is what they let through
+pub record Output {A : Type 0} (ts : List Test) (new old now : A) : Type 0 where
+  pub is : now ≡ after (answer ts) new old

@@ -1,8 +1,4 @@
--- Laws of tests in a row and of the answer that they give.
---     answer-pass, answer-fail      a first test that passes, and one that does not
---     answer-first, answer-rest     where the answer is 0 the first test passes, and so do the others
---     answer-before, answer-past    a refusal is the answer, whatever follows it; where tests pass, what follows them decides
---     after-done, after-refused, after-other, output-new, output-kept      an output after the answer 0, and after any other
+-- Laws of tests on every element.
 --     every-at, every-all           what `every` says of each place
 --     every-append, every-joined    lists in a row
 --     eachBelow-..                  the same of p 0, .., p (k − 1)
@@ -11,20 +7,20 @@
 --     and-same, and-differs, same-first, same-rest      && of an equation and other tests
 -- Assumes nothing.
 use mathlib.Core.Path.{_≡_, refl, sym, ap, _∙_}
-use mathlib.Core.Bool.{Bool, true, false, _&&_, true≢false, and-assoc, and-false, cond}
+use mathlib.Core.Bool.{Bool, true, false, _&&_, true≢false, and-assoc, and-false}
 use mathlib.Core.List.{List, [], _∷_, _++_, map}
 use mathlib.Core.Logic.{⊎-elim}
-use Prim.Native.Nat.{ℕ, zero, suc, _+_, _≤_, _<_, zero-le}
+use Prim.Native.Nat.{ℕ, zero, suc, _+_, _≤_, _<_}
 use native.Mathlib.Nat.{not-suc-le-zero, le-of-suc-le-suc, zero-lt-suc, le-antisymm}
 use native.Mathlib.Numerals.{add-one}
 use native.Mathlib.Omega.{arith}
-use lib.Dec.{eqb, leb, ltb}
+use lib.Dec.{eqb}
 use lib.ListN.{length, getD, drop, drop-of-length-le}
 use lib.Seq.{drop-cons}
-use borrow.Author.Tests.{eqb-true, eq-eqb, ne-eqb, leb-true, ltb-true}
+use borrow.Author.Tests.{eqb-true, eq-eqb, ne-eqb}
 use Rattle.whole.specs.Int.{lt-or-le}
 use Rattle.whole.specs.Table.{joined}
-use Rattle.whole.specs.Refusal.{Test, _orElse_, answer, after, every, eachBelow, sameBytes}
+use Rattle.whole.specs.Every.{every, eachBelow, sameBytes}
 
 -- ---- && of two tests
 
@@ -60,53 +56,6 @@ same-first a b rest e = eqb-true a b (both-first (eqb a b) rest e)
 
 pub same-rest : (a b : ℕ) (rest : Bool) → (eqb a b && rest) ≡ true → rest ≡ true
 same-rest a b rest e = both-second (eqb a b) rest e
-
--- ---- the answer
-
-pub answer-pass : {passes : Bool} (number : ℕ) (ts : List Test) → passes ≡ true → answer ((passes orElse number) ∷ ts) ≡ answer ts
-unfolding answer
-answer-pass number ts e = rw e
-
-pub answer-fail : {passes : Bool} (number : ℕ) (ts : List Test) → passes ≡ false → answer ((passes orElse number) ∷ ts) ≡ number
-unfolding answer
-answer-fail number ts e = rw e
-
-pub answer-none : answer [] ≡ 0
-unfolding answer
-answer-none = refl
-
--- with a number other than 0
-pub answer-first : (passes : Bool) (number : ℕ) (ts : List Test) → answer ((passes orElse suc number) ∷ ts) ≡ 0 → passes ≡ true
-unfolding answer
-answer-first true number ts e = refl
-answer-first false number ts e = absurd (omega arith)
-
-pub answer-rest : (passes : Bool) (number : ℕ) (ts : List Test) → answer ((passes orElse suc number) ∷ ts) ≡ 0 → answer ts ≡ 0
-unfolding answer
-answer-rest true number ts e = e
-answer-rest false number ts e = absurd (omega arith)
-
--- a refusal among the first tests is the answer, whatever follows them
-pub answer-before : (m : ℕ) (xs ys : List Test) → answer xs ≡ suc m → answer (xs ++ ys) ≡ suc m
-unfolding answer
-answer-before m [] ys e = absurd (omega arith)
-answer-before m (x ∷ xs) ys e = go (answer-before m xs ys) (x .passes) e
-  where
-    go : (answer xs ≡ suc m → answer (xs ++ ys) ≡ suc m) → (b : Bool) → cond b (answer xs) (x .number) ≡ suc m → cond b (answer (xs ++ ys)) (x .number) ≡ suc m
-    go rest true h = rest h
-    go rest false h = h
-
--- where the first tests pass, those that follow them decide
-pub answer-past : (xs ys : List Test) → every (λ (t : Test). ltb 0 (t .number)) xs ≡ true → answer xs ≡ 0 → answer (xs ++ ys) ≡ answer ys
-unfolding answer every
-answer-past [] ys n e = refl
-answer-past (x ∷ xs) ys n e =
-    go (answer-past xs ys (both-second (ltb 0 (x .number)) (every (λ (t : Test). ltb 0 (t .number)) xs) n)) (x .passes) e
-  where
-    go : (answer xs ≡ 0 → answer (xs ++ ys) ≡ answer ys) → (b : Bool) → cond b (answer xs) (x .number) ≡ 0 → cond b (answer (xs ++ ys)) (x .number) ≡ answer ys
-    go rest true h = rest h
-    go rest false h =
-        absurd (omega (arith, ltb-true 0 (x .number) (both-first (ltb 0 (x .number)) (every (λ (t : Test). ltb 0 (t .number)) xs) n)))
 
 -- ---- each of p 0, .., p (k − 1)
 
@@ -151,34 +100,9 @@ unfolding eachBelow
 eachBelow-ext zero p r h = refl
 eachBelow-ext (suc k) p r h = rw (eachBelow-ext k p r (λ i l. h i (omega arith)), h k (omega arith))
 
--- ---- an output
+-- ---- every element
 
 module _ {A : Type 0} where
-  pub after-done : {number : ℕ} (new old : A) → number ≡ 0 → after number new old ≡ new
-  unfolding after
-  after-done new old e = rw e
-
-  pub after-refused : {number : ℕ} (m : ℕ) (new old : A) → number ≡ suc m → after number new old ≡ old
-  unfolding after
-  after-refused m new old e = rw e
-
-  -- any number but 0 is a refusal
-  pub after-other : {number : ℕ} (new old : A) → (number ≡ 0 → ⊥) → after number new old ≡ old
-  after-other {number} new old h = go number h
-    where
-      go : (n : ℕ) → (n ≡ 0 → ⊥) → after n new old ≡ old
-      go zero k = absurd (k refl)
-      go (suc m) k = after-refused m new old refl
-
-  -- what an output holds is what it has to hold: done, and refused
-  pub output-new : {number : ℕ} {out new : A} (old : A) → 0 ≡ number → out ≡ new → out ≡ after number new old
-  output-new {new = new} old e f = f ∙ sym (after-done new old (sym e))
-
-  pub output-kept : {number : ℕ} (m : ℕ) (new old : A) → suc m ≡ number → old ≡ after number new old
-  output-kept m new old e = sym (after-refused m new old (sym e))
-
-  -- ---- every element
-
   pub every-at : (p : A → Bool) (xs : List A) (i : ℕ) (d : A) → every p xs ≡ true → i < length xs → p (getD xs i d) ≡ true
   unfolding every
   every-at p [] i d e l = absurd (not-suc-le-zero l)
@@ -230,18 +154,6 @@ pub same-refl-bytes : (xs : List ℕ) → sameBytes xs xs ≡ true
 unfolding sameBytes
 same-refl-bytes [] = refl
 same-refl-bytes (x ∷ xs) = both (eq-eqb x x refl) (same-refl-bytes xs)
-
--- ---- more of the answer and of `every`
-
--- an answer is 0 or one of the tests' numbers, so at most the largest of them
-pub answer-most : (m : ℕ) (ts : List Test) → every (λ (t : Test). leb (t .number) m) ts ≡ true → answer ts ≤ m
-unfolding answer every
-answer-most m [] e = zero-le
-answer-most m (t ∷ ts) e = go (answer-most m ts (both-second (leb (t .number) m) (every (λ (u : Test). leb (u .number) m) ts) e)) (t .passes)
-  where
-    go : answer ts ≤ m → (b : Bool) → cond b (answer ts) (t .number) ≤ m
-    go rest true = rest
-    go rest false = leb-true (t .number) m (both-first (leb (t .number) m) (every (λ (u : Test). leb (u .number) m) ts) e)
 
 pub every-map : {A B : Type 0} (p : B → Bool) (f : A → B) (xs : List A) → every p (map f xs) ≡ every (λ x. p (f x)) xs
 unfolding every

@@ -1,0 +1,122 @@
+-- Laws of tests in a row, of the answer that they give and of what an output holds then.
+--     answer-pass, answer-fail      a first test that passes, and one that does not
+--     answer-first, answer-rest     where the answer is 0 the first test passes, and so do the others
+--     answer-before, answer-past    a refusal is the answer, whatever follows it; where tests pass, what follows them decides
+--     after-done, after-refused, after-other      an output after the answer 0, and after any other
+--     tests                         the laws by which `search` proves what a function answers that makes its tests one after another
+--     outputs                       and what it leaves in its outputs
+-- Assumes nothing.
+use mathlib.Core.Path.{_≡_, refl, sym, _∙_}
+use mathlib.Core.Bool.{Bool, true, false, not, cond}
+use mathlib.Core.List.{List, [], _∷_, _++_}
+use Prim.Native.Nat.{ℕ, zero, suc, _≤_, _<_, zero-le}
+use native.Mathlib.Omega.{arith}
+use lib.Dec.{eqb, leb, ltb}
+use borrow.Author.Tests.{eqb-true, eqb-false, eq-eqb, ne-eqb, le-leb, leb-true, ltb-true, not-true, not-false}
+use Rattle.whole.specs.Every.{every}
+use Rattle.whole.specs.EveryLaws.{both-first, both-second}
+use Rattle.answers.specs.Tests.{Test, _orElse_, answer, after, Answered, Output}
+
+-- ---- the answer
+
+pub answer-pass : {passes : Bool} (number : ℕ) (ts : List Test) → passes ≡ true → answer ((passes orElse number) ∷ ts) ≡ answer ts
+unfolding answer
+answer-pass number ts e = rw e
+
+pub answer-fail : {passes : Bool} (number : ℕ) (ts : List Test) → passes ≡ false → answer ((passes orElse number) ∷ ts) ≡ number
+unfolding answer
+answer-fail number ts e = rw e
+
+pub answer-none : answer [] ≡ 0
+unfolding answer
+answer-none = refl
+
+-- with a number other than 0
+pub answer-first : (passes : Bool) (number : ℕ) (ts : List Test) → answer ((passes orElse suc number) ∷ ts) ≡ 0 → passes ≡ true
+unfolding answer
+answer-first true number ts e = refl
+answer-first false number ts e = absurd (omega arith)
+
+pub answer-rest : (passes : Bool) (number : ℕ) (ts : List Test) → answer ((passes orElse suc number) ∷ ts) ≡ 0 → answer ts ≡ 0
+unfolding answer
+answer-rest true number ts e = e
+answer-rest false number ts e = absurd (omega arith)
+
+-- a refusal among the first tests is the answer, whatever follows them
+pub answer-before : (m : ℕ) (xs ys : List Test) → answer xs ≡ suc m → answer (xs ++ ys) ≡ suc m
+unfolding answer
+answer-before m [] ys e = absurd (omega arith)
+answer-before m (x ∷ xs) ys e = go (answer-before m xs ys) (x .passes) e
+  where
+    go : (answer xs ≡ suc m → answer (xs ++ ys) ≡ suc m) → (b : Bool) → cond b (answer xs) (x .number) ≡ suc m → cond b (answer (xs ++ ys)) (x .number) ≡ suc m
+    go rest true h = rest h
+    go rest false h = h
+
+-- where the first tests pass, those that follow them decide
+pub answer-past : (xs ys : List Test) → every (λ (t : Test). ltb 0 (t .number)) xs ≡ true → answer xs ≡ 0 → answer (xs ++ ys) ≡ answer ys
+unfolding answer every
+answer-past [] ys n e = refl
+answer-past (x ∷ xs) ys n e =
+    go (answer-past xs ys (both-second (ltb 0 (x .number)) (every (λ (t : Test). ltb 0 (t .number)) xs) n)) (x .passes) e
+  where
+    go : (answer xs ≡ 0 → answer (xs ++ ys) ≡ answer ys) → (b : Bool) → cond b (answer xs) (x .number) ≡ 0 → cond b (answer (xs ++ ys)) (x .number) ≡ answer ys
+    go rest true h = rest h
+    go rest false h =
+        absurd (omega (arith, ltb-true 0 (x .number) (both-first (ltb 0 (x .number)) (every (λ (t : Test). ltb 0 (t .number)) xs) n)))
+
+-- ---- an output
+
+module _ {A : Type 0} where
+  pub after-done : {number : ℕ} (new old : A) → number ≡ 0 → after number new old ≡ new
+  unfolding after
+  after-done new old e = rw e
+
+  pub after-refused : {number : ℕ} (m : ℕ) (new old : A) → number ≡ suc m → after number new old ≡ old
+  unfolding after
+  after-refused m new old e = rw e
+
+  -- any number but 0 is a refusal
+  pub after-other : {number : ℕ} (new old : A) → (number ≡ 0 → ⊥) → after number new old ≡ old
+  after-other {number} new old h = go number h
+    where
+      go : (n : ℕ) → (n ≡ 0 → ⊥) → after n new old ≡ old
+      go zero k = absurd (k refl)
+      go (suc m) k = after-refused m new old refl
+
+-- an answer is 0 or one of the tests' numbers, so at most the largest of them
+pub answer-most : (m : ℕ) (ts : List Test) → every (λ (t : Test). leb (t .number) m) ts ≡ true → answer ts ≤ m
+unfolding answer every
+answer-most m [] e = zero-le
+answer-most m (t ∷ ts) e = go (answer-most m ts (both-second (leb (t .number) m) (every (λ (u : Test). leb (u .number) m) ts) e)) (t .passes)
+  where
+    go : answer ts ≤ m → (b : Bool) → cond b (answer ts) (t .number) ≤ m
+    go rest true = rest
+    go rest false = leb-true (t .number) m (both-first (leb (t .number) m) (every (λ (u : Test). leb (u .number) m) ts) e)
+
+-- ---- what a function answers that makes its tests one after another
+
+module _ {ts : List Test} where
+  -- the first test fails
+  pub refused : {passes : Bool} {number : ℕ} → passes ≡ false → Answered ((passes orElse number) ∷ ts) number
+  refused {number = number} e = record { is = sym (answer-fail number ts e) }
+
+  -- it passes, and the others decide
+  pub past : {passes : Bool} {first number : ℕ} → passes ≡ true → Answered ts number → Answered ((passes orElse first) ∷ ts) number
+  past {first = first} e a = record { is = a .is ∙ sym (answer-pass first ts e) }
+
+pub accepted : Answered [] 0
+accepted = record { is = sym answer-none }
+
+-- a test in the code: a number that is, or is not, what a function computes
+pub agrees : {a b c : ℕ} → a ≡ b → b ≡ c → eqb a c ≡ true
+agrees {a} {c = c} e f = eq-eqb a c (e ∙ f)
+
+pub differs : {a b c : ℕ} → (a ≡ b → ⊥) → b ≡ c → eqb a c ≡ false
+differs {a} {c = c} h f = ne-eqb a c (λ e. h (e ∙ sym f))
+
+-- what a function computes is, or is not, true
+pub holds : {x passes : Bool} → x ≡ passes → not x ≡ false → passes ≡ true
+holds {x} e h = sym e ∙ not-false x h
+
+pub misses : {x passes : Bool} → x ≡ passes → not x ≡ true → passes ≡ false
+misses {x} e h = sym e ∙ not-true x h
