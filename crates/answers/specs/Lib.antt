@@ -1,3 +1,4 @@
 pub mod Tests
 pub mod TestLaws
+pub mod OutputLaws
 pub mod Answers

@@ -120,3 +120,34 @@ holds {x} e h = sym e ∙ not-false x h
 
 pub misses : {x passes : Bool} → x ≡ passes → not x ≡ true → passes ≡ false
 misses {x} e h = sym e ∙ not-true x h
+
+-- ---- every test passes
+
+-- as facts, one for each test
+unfoldable pub AllPass : List Test → Type 0
+AllPass [] = Unit
+AllPass (t ∷ ts) = (t .passes ≡ true) × AllPass ts
+
+pub all-pass : (ts : List Test) → AllPass ts → answer ts ≡ 0
+unfolding AllPass answer
+all-pass [] p = refl
+all-pass (t ∷ ts) p = rw (p .0) (all-pass ts (p .1))
+
+-- no test has the number 0
+abbrev pub numbered : List Test → Bool
+numbered ts = every (λ (t : Test). ltb 0 (t .number)) ts
+
+pub passes-all : (ts : List Test) → numbered ts ≡ true → answer ts ≡ 0 → AllPass ts
+unfolding AllPass answer every
+passes-all [] n e = tt
+passes-all (t ∷ ts) n e = go (passes-all ts (both-second (ltb 0 (t .number)) (numbered ts) n)) (t .passes) refl e
+  where
+    go : (answer ts ≡ 0 → AllPass ts) → (b : Bool) → t .passes ≡ b → cond b (answer ts) (t .number) ≡ 0 → (t .passes ≡ true) × AllPass ts
+    go rest true f h = (f, rest h)
+    go rest false f h = absurd (omega (arith, ltb-true 0 (t .number) (both-first (ltb 0 (t .number)) (numbered ts) n)))
+
+-- the same of the number that a function answered, where it is 0
+pub all-passed : {ts : List Test} {number : ℕ} {done : Bool} → numbered ts ≡ true → Answered ts number → done ≡ eqb number 0 → done ≡ true → AllPass ts
+all-passed {ts} {number} n a e h = passes-all ts n (sym (a .is) ∙ eqb-true number 0 (sym e ∙ h))
+
+pub ruleset tests = (refused, past, accepted, eq-eqb, ne-eqb, agrees, differs, holds, misses)

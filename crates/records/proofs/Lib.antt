@@ -1,5 +1,4 @@
-pub mod AnswerLaws
 pub mod PieceLaws
 pub mod PublicSteps
 pub mod SecretSteps
-pub mod Determined
+pub mod SetISteps

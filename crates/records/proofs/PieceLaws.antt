@@ -12,7 +12,7 @@ use borrow.Author.Tests.{eq-eqb, ne-eqb}
 use Rattle.whole.specs.Fill.{filled, filled-none, filled-more, filled-all, length-filled}
 use Rattle.sets.specs.declared.Numbers.{Numbers}
 use Rattle.records.specs.Layout.{marked}
-use Rattle.records.specs.Pieces.{Copies, CopiesOut}
+use Rattle.records.specs.Asks.{Copies, CopiesOut}
 use lib.Seq.{drop-length}
 use Rattle.whole.specs.Parts.{part-length}
 

@@ -1,7 +1,7 @@
 -- The steps of reading and writing a public record: one t_i in its own stretch.
 -- Assumes nothing.
 use mathlib.Core.Path.{_≡_, sym, ap, _∙_, refl, ap₂}
-use mathlib.Core.Bool.{true, false, Bool, _&&_, and-assoc, and-comm}
+use mathlib.Core.Bool.{true, false, Bool}
 use mathlib.Core.List.{List, _++_, append-nil, append-assoc}
 use Prim.Native.Nat.{ℕ, _+_, _*_, _-_, _≤_, _<_, zero-le}
 use native.Mathlib.Omega.{arith}
@@ -10,25 +10,27 @@ use lib.ListN.{length, getD, take, drop, length-drop, length-append}
 use borrow.Author.Tests.{lt-ltb, le-ltb, eqb-true}
 use Rattle.whole.specs.Below.{below-more}
 use Rattle.whole.specs.Parts.{part-length}
-use Rattle.whole.specs.EveryLaws.{Passing, passing-more, passing-fails, passing-all, every-joined, eachBelow-none, eachBelow-more, eachBelow-fails, both-first, same-first, same-rest, eachBelow-end}
-use Rattle.answers.specs.TestLaws.{answer-first}
+use Rattle.whole.specs.EveryLaws.{Passing, passing-more, passing-fails, passing-all, every-joined, eachBelow-none, eachBelow-more, eachBelow-fails, eachBelow-end}
+use Rattle.answers.specs.TestLaws.{AllPass, all-passed}
 use Rattle.whole.specs.Written.{lent-rest, put-rest, Written, written-none, written-kept, written-length, written-more, written-all, put-part, written-front}
 use Rattle.packing.specs.Digits.{bytesFor, packed, unpacked, Packs, Unpacks}
 use Rattle.sets.specs.declared.Numbers.{Numbers}
 use Rattle.sets.specs.GoodLaws.{n-few, row-inside}
 use Rattle.records.specs.Layout.{tBytes, publicBytes, polynomial, mark}
 use Rattle.sets.specs.Limits.{seedBytes}
-use Rattle.records.specs.PublicPlaces.{ReadsT, PacksT, ScansT, ReadsAllT, PacksAllT, TestsPublic, PutsPublic, TakesPublic}
-use Rattle.records.specs.Public.{tOf, allT, tInRange, packedT, publicRecord, seedAOf, readPublicTests}
+use Rattle.records.specs.Asks.{ReadsT, PacksT, ScansT, LongPublic, ReadsAllT, PacksAllT, PutsPublic, TakesPublic}
+use Rattle.records.specs.Public.{tOf, allT, tInRange, packedT, publicRecord, seedAOf, publicTests, readPublicTests, writePublicTests}
 use Rattle.records.specs.SizeLaws.{stretch-fits}
 use native.Mathlib.Nat.{le-antisymm, mul-comm, add-sub-cancel-left}
-use Rattle.whole.specs.Every.{eachBelow}
-use Rattle.answers.specs.Tests.{answer}
+use Rattle.whole.specs.Every.{every, eachBelow}
+use Rattle.answers.specs.Tests.{Answered}
 use native.Mathlib.Numerals.{add-one}
 use lib.Seq.{length-take-le}
 use Rattle.whole.specs.Table.{joined, joined-length}
 use Rattle.whole.specs.Rows.{row-fits}
 use Rattle.sets.specs.Good.{Good}
+use Rattle.sets.specs.SetI.{setI, good-i}
+use Rattle.sets.specs.Known.{Known, known-good}
 use Rattle.records.specs.PublicLaws.{tOf-length, polynomial-length, polynomial-below, packed-t-length, packedT-length, tInRange-below}
 
 -- ---- one t_i is read
@@ -259,41 +261,18 @@ module _ {s : Numbers} {t old public : List ℕ} {i : ℕ} (r : PacksAllT s t ol
 
 -- ---- reading
 
--- the lengths of t, seed_a and the record
-abbrev Lengths : Numbers → ℕ → ℕ → ℕ → Bool
-Lengths s t seedA public = eqb t (s .k * s .n) && (eqb seedA seedBytes && eqb public (publicBytes s))
-
--- in the order of reading
-pub lengths-read : (s : Numbers) (public t seedA : ℕ) {x : Bool} → x ≡ Lengths s t seedA public
-    → x ≡ (eqb public (publicBytes s) && (eqb t (s .k * s .n) && eqb seedA seedBytes))
-lengths-read s public t seedA e =
-    e
-    ∙ sym (and-assoc (eqb t (s .k * s .n)) (eqb seedA seedBytes) (eqb public (publicBytes s)))
-    ∙ and-comm (eqb t (s .k * s .n) && eqb seedA seedBytes) (eqb public (publicBytes s))
-
-pub lengths-own : (s : Numbers) (public t seedA : ℕ) {x : Bool} → x ≡ Lengths s t seedA public → x ≡ true → eqb public (publicBytes s) ≡ true
-lengths-own s public t seedA e f =
-    both-first (eqb public (publicBytes s)) (eqb t (s .k * s .n) && eqb seedA seedBytes) (sym (lengths-read s public t seedA e) ∙ f)
-
 -- a record that is read has its length, and so have the outputs
-pub read-takes : {s : Numbers} {public t seedA scratch : List ℕ} → TestsPublic s scratch
-    → 0 ≡ answer (readPublicTests s public (length t) (length seedA)) → TakesPublic s public t seedA
-unfolding readPublicTests
-read-takes {s} {public} {t} {seedA} p e =
+pub read-takes : {s : Numbers} {public t seedA : List ℕ} {number : ℕ} {done : Bool} → Known s
+    → Answered (readPublicTests s public (length t) (length seedA)) number → done ≡ eqb number 0 → done ≡ true → TakesPublic s public t seedA
+unfolding readPublicTests publicTests AllPass every
+read-takes k a e h =
+    let p = all-passed refl a e h in
     record {
-      good = p .good;
-      long = same-first (length public) (publicBytes s) outputs passed;
-      polynomials = same-first (length t) (s .k * s .n) (eqb (length seedA) seedBytes) (same-rest (length public) (publicBytes s) outputs passed);
-      seed =
-          eqb-true (length seedA) seedBytes
-          (same-rest (length t) (s .k * s .n) (eqb (length seedA) seedBytes) (same-rest (length public) (publicBytes s) outputs passed));
+      good = known-good k;
+      long = eqb-true _ _ (p .1 .1 .0);
+      polynomials = eqb-true _ _ (p .0);
+      seed = eqb-true _ _ (p .1 .0);
     }
-  where
-    outputs : Bool
-    outputs = eqb (length t) (s .k * s .n) && eqb (length seedA) seedBytes
-
-    passed : (eqb (length public) (publicBytes s) && (eqb (length t) (s .k * s .n) && eqb (length seedA) seedBytes)) ≡ true
-    passed = answer-first _ 0 _ (sym e)
 
 -- seed_a of a record
 pub read-seed : {s : Numbers} {public t seedA new : List ℕ} {at : ℕ} → TakesPublic s public t seedA → at ≡ 2 + s .k * tBytes s
@@ -331,19 +310,20 @@ module _ {s : Numbers} {t seedA old : List ℕ} (p : PutsPublic s t seedA old) w
       long₂ = length-append (mark s 1) (packedT s t) ∙ ap (λ (n : ℕ). 2 + n) packed-long
 
 -- values and a record that pass the tests
-pub write-puts : {s : Numbers} {t seedA public : List ℕ} {m r : Bool} → Good s → m ≡ Lengths s (length t) (length seedA) (length public) → m ≡ true
-    → r ≡ tInRange s t → r ≡ true → PutsPublic s t seedA public
-write-puts {s} {t} {seedA} {public} w e f g h =
+pub write-puts : {s : Numbers} {t seedA public : List ℕ} {number : ℕ} {done : Bool} → Good s
+    → Answered (writePublicTests s t seedA (length public)) number → done ≡ eqb number 0 → done ≡ true → PutsPublic s t seedA public
+unfolding writePublicTests AllPass every
+write-puts {s} {t} good a e h =
+    let p = all-passed refl a e h in
     record {
-      good = w;
-      polynomials = same-first (length t) (s .k * s .n) bytes (sym e ∙ f);
-      below = tInRange-below s t (sym g ∙ h);
-      seed = same-first (length seedA) seedBytes (eqb (length public) (publicBytes s)) passed;
-      long = eqb-true (length public) (publicBytes s) (same-rest (length seedA) seedBytes (eqb (length public) (publicBytes s)) passed);
+      good = good;
+      polynomials = eqb-true _ _ (p .0);
+      below = tInRange-below s t (p .1 .1 .1 .0);
+      seed = eqb-true _ _ (p .1 .0);
+      long = eqb-true _ _ (p .1 .1 .0);
     }
-  where
-    bytes : Bool
-    bytes = eqb (length seedA) seedBytes && eqb (length public) (publicBytes s)
 
-    passed : (eqb (length seedA) seedBytes && eqb (length public) (publicBytes s)) ≡ true
-    passed = same-rest (length t) (s .k * s .n) bytes (sym e ∙ f)
+-- ---- set I
+
+pub scans-i : {s : Numbers} {public scratch : List ℕ} → s ≡ setI → LongPublic s public → length scratch ≡ 1024 → ScansT s public scratch
+scans-i e p l = record { good = good-i e; long = p .long; room = rw e l }

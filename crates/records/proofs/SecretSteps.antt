@@ -1,7 +1,7 @@
 -- The steps of reading and writing a secret record.
 -- Assumes nothing.
 use mathlib.Core.Path.{_≡_, refl, sym, ap, ap₂, _∙_}
-use mathlib.Core.Bool.{Bool, true, false, not, _&&_, and-assoc, and-comm}
+use mathlib.Core.Bool.{Bool, true, false, not}
 use mathlib.Core.List.{List, _++_, append-assoc}
 use Prim.Native.Nat.{ℕ, _+_, _*_, _-_, _≤_, _<_}
 use native.Mathlib.Omega.{arith}
@@ -9,16 +9,17 @@ use lib.Dec.{eqb}
 use lib.ListN.{length, getD, take, drop, length-append}
 use lib.Seq.{length-take-le}
 use borrow.Author.Tests.{eq-eqb, ne-eqb, eqb-true}
-use Rattle.answers.specs.Tests.{answer}
-use Rattle.whole.specs.EveryLaws.{both-first, same-first, same-rest, and-pass, not-first, Passing, passing-more, passing-fails, passing-all}
-use Rattle.answers.specs.TestLaws.{answer-first}
+use Rattle.whole.specs.Every.{every}
+use Rattle.whole.specs.EveryLaws.{Passing, passing-more, passing-fails, passing-all}
 use Rattle.whole.specs.Written.{Written, written-kept, written-front, written-more, written-take, written-all}
+use Rattle.answers.specs.Tests.{Answered}
+use Rattle.answers.specs.TestLaws.{AllPass, all-passed}
 use Rattle.sets.specs.declared.Numbers.{Numbers}
 use Rattle.sets.specs.Good.{Good}
-use Rattle.records.specs.Layout.{mark, secretBytes}
 use Rattle.sets.specs.Limits.{seedBytes, digestBytes}
-use Rattle.records.specs.Secret.{secretRecord, sOf, allE, secretSeedA, secretSeedY, secretG, inByteRange, readSecretTests}
-use Rattle.records.specs.SecretPlaces.{SecretLengths, PutsSecret, PutsTail, TakesValues, TakesTail, TakesSecret}
+use Rattle.records.specs.Layout.{mark}
+use Rattle.records.specs.Secret.{secretRecord, sOf, allE, secretSeedA, secretSeedY, secretG, inByteRange, byteTests, secretTests, readSecretTests, writeSecretTests}
+use Rattle.records.specs.Asks.{PutsSecret, PutsTail, TakesTail, TakesSecret}
 
 -- ---- the range of secret bytes
 
@@ -37,20 +38,12 @@ module _ (bytes : List ℕ) {i : ℕ} (p : Testing bytes i) where
   unfolding inByteRange
   testing-all l = passing-all p l
 
--- s and e
-module _ (s e : List ℕ) {a : Bool} (p : a ≡ inByteRange s) where
-  pub range-both : {b : Bool} → a ≡ true → b ≡ inByteRange e → b ≡ (inByteRange s && inByteRange e)
-  range-both f g = g ∙ sym (and-pass (inByteRange e) (sym p ∙ f))
-
-  pub range-first : a ≡ false → false ≡ (inByteRange s && inByteRange e)
-  range-first f = sym (not-first (inByteRange e) (sym p ∙ f))
-
 -- s and e where they stand in a record
-pub range-values : (set : Numbers) (secret : List ℕ) {middle end : ℕ} {r : Bool} → middle ≡ 2 + set .n → end ≡ 2 + set .n + set .k * set .n
-    → r ≡ (inByteRange (take (middle - 2) (drop 2 secret)) && inByteRange (take (end - middle) (drop middle secret)))
-    → r ≡ (inByteRange (sOf set secret) && inByteRange (allE set secret))
+pub bytes-lent : (set : Numbers) (secret : List ℕ) {middle end number : ℕ} → middle ≡ 2 + set .n → end ≡ 2 + set .n + set .k * set .n
+    → Answered (byteTests (take (middle - 2) (drop 2 secret)) (take (end - middle) (drop middle secret))) number
+    → Answered (byteTests (sOf set secret) (allE set secret)) number
 unfolding sOf allE
-range-values set secret {middle} {end} e f g = g ∙ rw (first, second, e)
+bytes-lent set secret {middle} {end} e f a = rw (first, second, e) at a
   where
     first : middle - 2 ≡ set .n
     first = omega arith
@@ -58,95 +51,29 @@ range-values set secret {middle} {end} e f g = g ∙ rw (first, second, e)
     second : end - middle ≡ set .k * set .n
     second = omega arith
 
--- ---- lengths
-
-abbrev Lengths : Numbers → ℕ → ℕ → ℕ → ℕ → ℕ → ℕ → Bool
-Lengths set s e seedA seedY g secret =
-    eqb s (set .n)
-    && (eqb e (set .k * set .n) && (eqb seedA seedBytes && (eqb seedY seedBytes && (eqb g digestBytes && eqb secret (secretBytes set)))))
-
-abbrev Outputs : Numbers → ℕ → ℕ → ℕ → ℕ → ℕ → Bool
-Outputs set s e seedA seedY g =
-    eqb s (set .n) && (eqb e (set .k * set .n) && (eqb seedA seedBytes && (eqb seedY seedBytes && eqb g digestBytes)))
-
--- the last of six tests comes first
-last-first : (a b c d e f : Bool) → (a && (b && (c && (d && (e && f))))) ≡ (f && (a && (b && (c && (d && e)))))
-last-first a b c d e f =
-    ap (λ (t : Bool). a && (b && (c && t))) (sym (and-assoc d e f))
-    ∙ ap (λ (t : Bool). a && (b && t)) (sym (and-assoc c (d && e) f))
-    ∙ ap (λ (t : Bool). a && t) (sym (and-assoc b (c && (d && e)) f))
-    ∙ sym (and-assoc a (b && (c && (d && e))) f)
-    ∙ and-comm (a && (b && (c && (d && e)))) f
-
-module _ (set : Numbers) (s e seedA seedY g secret : ℕ) {x : Bool} (h : x ≡ Lengths set s e seedA seedY g secret) where
-  -- in the order of reading
-  pub lengths-read : x ≡ (eqb secret (secretBytes set) && Outputs set s e seedA seedY g)
-  lengths-read =
-      h
-      ∙ last-first (eqb s (set .n)) (eqb e (set .k * set .n)) (eqb seedA seedBytes) (eqb seedY seedBytes) (eqb g digestBytes) (eqb secret (secretBytes set))
-
-  pub lengths-own : x ≡ true → eqb secret (secretBytes set) ≡ true
-  lengths-own f = both-first (eqb secret (secretBytes set)) (Outputs set s e seedA seedY g) (sym lengths-read ∙ f)
-
--- what the tests of the lengths say
-lengths-are : (set : Numbers) (s e seedA seedY g : List ℕ) → Outputs set (length s) (length e) (length seedA) (length seedY) (length g) ≡ true
-    → SecretLengths set s e seedA seedY g
-lengths-are set s e seedA seedY g h =
-    record {
-      s-long = same-first (length s) (set .n) after-s h;
-      e-long = same-first (length e) (set .k * set .n) after-e h₁;
-      seedA-long = same-first (length seedA) seedBytes after-seedA h₂;
-      seedY-long = same-first (length seedY) seedBytes (eqb (length g) digestBytes) h₃;
-      g-long = eqb-true (length g) digestBytes (same-rest (length seedY) seedBytes (eqb (length g) digestBytes) h₃);
-    }
-  where
-    after-seedA : Bool
-    after-seedA = eqb (length seedY) seedBytes && eqb (length g) digestBytes
-
-    after-e : Bool
-    after-e = eqb (length seedA) seedBytes && (eqb (length seedY) seedBytes && eqb (length g) digestBytes)
-
-    after-s : Bool
-    after-s = eqb (length e) (set .k * set .n) && (eqb (length seedA) seedBytes && (eqb (length seedY) seedBytes && eqb (length g) digestBytes))
-
-    h₁ : (eqb (length e) (set .k * set .n) && (eqb (length seedA) seedBytes && (eqb (length seedY) seedBytes && eqb (length g) digestBytes))) ≡ true
-    h₁ = same-rest (length s) (set .n) after-s h
-
-    h₂ : (eqb (length seedA) seedBytes && (eqb (length seedY) seedBytes && eqb (length g) digestBytes)) ≡ true
-    h₂ = same-rest (length e) (set .k * set .n) after-e h₁
-
-    h₃ : (eqb (length seedY) seedBytes && eqb (length g) digestBytes) ≡ true
-    h₃ = same-rest (length seedA) seedBytes after-seedA h₂
-
 -- ---- reading
 
 -- a record that is read has its length, and so have the outputs
-pub read-takes : (set : Numbers) (secret s e seedA seedY g : List ℕ) → Good set
-    → 0 ≡ answer (readSecretTests set secret (length s) (length e) (length seedA) (length seedY) (length g)) → TakesSecret set secret s e seedA seedY g
-unfolding readSecretTests
-read-takes set secret s e seedA seedY g good h =
+pub read-takes : {set : Numbers} {secret s e seedA seedY g : List ℕ} {number : ℕ} {done : Bool} → Good set
+    → Answered (readSecretTests set secret (length s) (length e) (length seedA) (length seedY) (length g)) number
+    → done ≡ eqb number 0 → done ≡ true → TakesSecret set secret s e seedA seedY g
+unfolding readSecretTests secretTests byteTests AllPass every
+read-takes good a e h =
+    let p = all-passed refl a e h in
     record {
       good = good;
-      long = same-first (length secret) (secretBytes set) outputs passed;
-      lengths = lengths-are set s e seedA seedY g (same-rest (length secret) (secretBytes set) outputs passed);
+      long = eqb-true _ _ (p .1 .1 .1 .1 .1 .0);
+      lengths =
+        record {
+          s-long = eqb-true _ _ (p .0);
+          e-long = eqb-true _ _ (p .1 .0);
+          seedA-long = eqb-true _ _ (p .1 .1 .0);
+          seedY-long = eqb-true _ _ (p .1 .1 .1 .0);
+          g-long = eqb-true _ _ (p .1 .1 .1 .1 .0);
+        };
     }
-  where
-    outputs : Bool
-    outputs = Outputs set (length s) (length e) (length seedA) (length seedY) (length g)
-
-    passed : (eqb (length secret) (secretBytes set) && Outputs set (length s) (length e) (length seedA) (length seedY) (length g)) ≡ true
-    passed = answer-first _ 0 _ (sym h)
 
 module _ {set : Numbers} {secret s e seedA seedY g : List ℕ} (p : TakesSecret set secret s e seedA seedY g) where
-  pub takes-values : TakesValues set secret s e
-  takes-values =
-      record {
-        good = p .good;
-        long = p .long;
-        s-long = p .lengths .s-long;
-        e-long = p .lengths .e-long;
-      }
-
   pub takes-tail : TakesTail set secret seedA seedY g
   takes-tail =
       record {
@@ -158,14 +85,14 @@ module _ {set : Numbers} {secret s e seedA seedY g : List ℕ} (p : TakesSecret 
       }
 
 -- the values, each from its own stretch
-module _ {set : Numbers} {secret s e : List ℕ} (p : TakesValues set secret s e) where
+module _ {set : Numbers} {secret s e seedA seedY g : List ℕ} (p : TakesSecret set secret s e seedA seedY g) where
   pub take-s : {new : List ℕ} → new ≡ take (length s) (drop 2 secret) → new ≡ sOf set secret
   unfolding sOf
-  take-s f = f ∙ rw (p .s-long)
+  take-s f = f ∙ rw (p .lengths .s-long)
 
   pub take-e : {new : List ℕ} {at : ℕ} → at ≡ 2 + set .n → new ≡ take (length e) (drop at secret) → new ≡ allE set secret
   unfolding allE
-  take-e h f = f ∙ rw (p .e-long, h)
+  take-e h f = f ∙ rw (p .lengths .e-long, h)
 
 module _ {set : Numbers} {secret seedA seedY g new : List ℕ} {at : ℕ} (p : TakesTail set secret seedA seedY g) where
   pub take-seedA : at ≡ 2 + set .n + set .k * set .n → new ≡ take (length seedA) (drop at secret) → new ≡ secretSeedA set secret
@@ -256,18 +183,21 @@ put-is {set} {s} {e} {seedA} {seedY} {g} {old} {marks} {first} {second} {third} 
     regrouped = simp append-assoc
 
 -- values and a record that pass the tests
-pub write-puts : (set : Numbers) (s e seedA seedY g secret : List ℕ) {x : Bool} → Good set
-    → x ≡ Lengths set (length s) (length e) (length seedA) (length seedY) (length g) (length secret) → x ≡ true
+pub write-puts : {set : Numbers} {s e seedA seedY g secret : List ℕ} {number : ℕ} {done : Bool} → Good set
+    → Answered (writeSecretTests set s e seedA seedY g (length secret)) number → done ≡ eqb number 0 → done ≡ true
     → PutsSecret set s e seedA seedY g secret
-write-puts set s e seedA seedY g secret w h f =
+unfolding writeSecretTests byteTests AllPass every
+write-puts good a e h =
+    let p = all-passed refl a e h in
     record {
-      good = w;
-      lengths = lengths-are set s e seedA seedY g (same-rest (length secret) (secretBytes set) outputs passed);
-      long = same-first (length secret) (secretBytes set) outputs passed;
+      good = good;
+      lengths =
+        record {
+          s-long = eqb-true _ _ (p .0);
+          e-long = eqb-true _ _ (p .1 .0);
+          seedA-long = eqb-true _ _ (p .1 .1 .0);
+          seedY-long = eqb-true _ _ (p .1 .1 .1 .0);
+          g-long = eqb-true _ _ (p .1 .1 .1 .1 .0);
+        };
+      long = eqb-true _ _ (p .1 .1 .1 .1 .1 .0);
     }
-  where
-    outputs : Bool
-    outputs = Outputs set (length s) (length e) (length seedA) (length seedY) (length g)
-
-    passed : (eqb (length secret) (secretBytes set) && Outputs set (length s) (length e) (length seedA) (length seedY) (length g)) ≡ true
-    passed = sym (lengths-read set (length s) (length e) (length seedA) (length seedY) (length g) (length secret) h) ∙ f

@@ -1,10 +1,8 @@
-pub mod Answers
 pub mod Layout
-pub mod Pieces
-pub mod PublicPlaces
 pub mod Public
 pub mod PublicLaws
 pub mod SizeLaws
 pub mod Secret
-pub mod SecretPlaces
 pub mod SecretLaws
+pub mod Asks
+pub mod Promises

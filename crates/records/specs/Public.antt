@@ -1,6 +1,6 @@
 -- The public record: mark 1, t_1..t_k at their width, seed_a. Its values are t, the k polynomials in a row, and seed_a.
 -- Assumes nothing: these are definitions.
-use mathlib.Core.Bool.{Bool, _&&_}
+use mathlib.Core.Bool.{Bool}
 use mathlib.Core.List.{List, [], _∷_, _++_}
 use Prim.Native.Nat.{ℕ, _+_, _*_}
 use lib.Dec.{eqb, ltb}
@@ -48,14 +48,13 @@ publicTests s public =
 -- reading a record into t and seed_a, with the lengths of the two outputs
 unfoldable pub readPublicTests : Numbers → List ℕ → ℕ → ℕ → List Test
 readPublicTests s public tLength seedLength =
-    ((eqb (length public) (publicBytes s) && (eqb tLength (s .k * s .n) && eqb seedLength seedBytes)) orElse 1)
-    ∷ (marked s 1 public orElse 2)
-    ∷ (tInRange s (allT s public) orElse 5)
-    ∷ []
+    (eqb tLength (s .k * s .n) orElse 1) ∷ (eqb seedLength seedBytes orElse 1) ∷ publicTests s public
 
 -- writing a record from t and seed_a, with the output's length
 unfoldable pub writePublicTests : Numbers → List ℕ → List ℕ → ℕ → List Test
 writePublicTests s t seedA publicLength =
-    ((eqb (length t) (s .k * s .n) && (eqb (length seedA) seedBytes && eqb publicLength (publicBytes s))) orElse 1)
+    (eqb (length t) (s .k * s .n) orElse 1)
+    ∷ (eqb (length seedA) seedBytes orElse 1)
+    ∷ (eqb publicLength (publicBytes s) orElse 1)
     ∷ (tInRange s t orElse 5)
     ∷ []

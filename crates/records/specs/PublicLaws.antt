@@ -15,8 +15,9 @@ use Rattle.whole.specs.Below.{Below, below-more, below-part}
 use Rattle.whole.specs.Parts.{part-length, part-piece, part-last, part-part, parts-join, part-second}
 use Rattle.whole.specs.Table.{joined-ext, joined-length, joined-part, joined-parts}
 use Rattle.answers.specs.Tests.{answer}
-use Rattle.whole.specs.EveryLaws.{both, both-first, both-second, every-at, every-all}
-use Rattle.answers.specs.TestLaws.{answer-pass, answer-none, answer-first, answer-rest}
+use Rattle.whole.specs.Every.{every}
+use Rattle.whole.specs.EveryLaws.{both-first, both-second, every-at, every-all}
+use Rattle.answers.specs.TestLaws.{AllPass, all-pass, passes-all}
 use Rattle.whole.specs.Rows.{row-fits, row-within}
 use Rattle.packing.specs.Digits.{bytesFor, packed, unpacked}
 use Rattle.packing.specs.Laws.{packed-length, unpacked-length, unpacked-packed, packed-unpacked-whole}
@@ -24,7 +25,7 @@ use Rattle.sets.specs.declared.Numbers.{Numbers}
 use Rattle.sets.specs.Good.{Good}
 use Rattle.records.specs.Layout.{mark, marked, stretch, polynomial, tBytes, publicBytes}
 use Rattle.sets.specs.Limits.{seedBytes}
-use Rattle.records.specs.Public.{packedT, publicRecord, tOf, allT, seedAOf, tInRange, readPublicTests}
+use Rattle.records.specs.Public.{packedT, publicRecord, tOf, allT, seedAOf, tInRange, publicTests, readPublicTests}
 
 -- ---- marks
 
@@ -145,12 +146,14 @@ module _ (s : Numbers) (t seedA : List ℕ) where
 
       -- reading it into outputs of the right lengths passes
       pub public-reads : length seedA ≡ seedBytes → answer (readPublicTests s (publicRecord s t seedA) (s .k * s .n) seedBytes) ≡ 0
-      unfolding readPublicTests
+      unfolding readPublicTests publicTests AllPass
       public-reads e =
-          answer-pass 1 _ (both (eq-eqb _ _ (publicRecord-length s t seedA long e)) (both (eq-eqb (s .k * s .n) _ refl) refl))
-          ∙ answer-pass 2 _ public-marked
-          ∙ answer-pass 5 _ (below-tInRange s _ (rw public-allT below))
-          ∙ answer-none
+          all-pass (readPublicTests s (publicRecord s t seedA) (s .k * s .n) seedBytes)
+          (eq-eqb (s .k * s .n) _ refl,
+          (refl,
+          (eq-eqb _ _ (publicRecord-length s t seedA long e),
+          (public-marked,
+          (below-tInRange s _ (rw public-allT below), tt)))))
 
 -- ---- what reads is what would be written
 
@@ -192,6 +195,7 @@ module _ (s : Numbers) (good : Good s) where
 -- a record that is read without refusal
 pub public-read-again : (s : Numbers) (public : List ℕ) (tLength seedLength : ℕ) → Good s → Below 256 public
     → answer (readPublicTests s public tLength seedLength) ≡ 0 → publicRecord s (allT s public) (seedAOf s public) ≡ public
-unfolding readPublicTests
+unfolding readPublicTests publicTests AllPass every
 public-read-again s public tLength seedLength good bytes e =
-    public-again s good public bytes (eqb-true _ _ (both-first _ _ (answer-first _ 0 _ e))) (answer-first _ 1 _ (answer-rest _ 0 _ e))
+    let p = passes-all (readPublicTests s public tLength seedLength) refl e in
+    public-again s good public bytes (eqb-true _ _ (p .1 .1 .0)) (p .1 .1 .1 .0)

@@ -1,6 +1,6 @@
 -- The secret record: mark 2, s and e_1..e_k one signed byte each, seed_a, seed_y, g.
 -- Assumes nothing: these are definitions.
-use mathlib.Core.Bool.{Bool, not, _&&_}
+use mathlib.Core.Bool.{Bool, not}
 use mathlib.Core.List.{List, [], _∷_, _++_}
 use Prim.Native.Nat.{ℕ, _+_, _*_}
 use lib.Dec.{eqb}
@@ -40,25 +40,34 @@ inByteRange bytes = every (λ b. not (eqb b 128)) bytes
 
 -- ---- the tests
 
+-- s and e_1..e_k: no byte is −128
+unfoldable pub byteTests : List ℕ → List ℕ → List Test
+byteTests s e = (inByteRange s orElse 5) ∷ (inByteRange e orElse 5) ∷ []
+
 -- a record by itself
 unfoldable pub secretTests : Numbers → List ℕ → List Test
 secretTests set secret =
     (eqb (length secret) (secretBytes set) orElse 1)
     ∷ (marked set 2 secret orElse 2)
-    ∷ ((inByteRange (sOf set secret) && inByteRange (allE set secret)) orElse 5)
-    ∷ []
+    ∷ byteTests (sOf set secret) (allE set secret)
 
+-- reading a record into s, e, seed_a, seed_y and g, with the lengths of the outputs
 unfoldable pub readSecretTests : Numbers → List ℕ → ℕ → ℕ → ℕ → ℕ → ℕ → List Test
 readSecretTests set secret sLength eLength seedALength seedYLength gLength =
-    ((eqb (length secret) (secretBytes set) && (eqb sLength (set .n) && (eqb eLength (set .k * set .n)
-    && (eqb seedALength seedBytes && (eqb seedYLength seedBytes && eqb gLength digestBytes))))) orElse 1)
-    ∷ (marked set 2 secret orElse 2)
-    ∷ ((inByteRange (sOf set secret) && inByteRange (allE set secret)) orElse 5)
-    ∷ []
+    (eqb sLength (set .n) orElse 1)
+    ∷ (eqb eLength (set .k * set .n) orElse 1)
+    ∷ (eqb seedALength seedBytes orElse 1)
+    ∷ (eqb seedYLength seedBytes orElse 1)
+    ∷ (eqb gLength digestBytes orElse 1)
+    ∷ secretTests set secret
 
+-- writing a record from s, e, seed_a, seed_y and g, with the output's length
 unfoldable pub writeSecretTests : Numbers → List ℕ → List ℕ → List ℕ → List ℕ → List ℕ → ℕ → List Test
 writeSecretTests set s e seedA seedY g secretLength =
-    ((eqb (length s) (set .n) && (eqb (length e) (set .k * set .n) && (eqb (length seedA) seedBytes
-    && (eqb (length seedY) seedBytes && (eqb (length g) digestBytes && eqb secretLength (secretBytes set)))))) orElse 1)
-    ∷ ((inByteRange s && inByteRange e) orElse 5)
-    ∷ []
+    (eqb (length s) (set .n) orElse 1)
+    ∷ (eqb (length e) (set .k * set .n) orElse 1)
+    ∷ (eqb (length seedA) seedBytes orElse 1)
+    ∷ (eqb (length seedY) seedBytes orElse 1)
+    ∷ (eqb (length g) digestBytes orElse 1)
+    ∷ (eqb secretLength (secretBytes set) orElse 1)
+    ∷ byteTests s e

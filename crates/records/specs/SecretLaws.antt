@@ -12,13 +12,13 @@ use lib.Seq.{take-all}
 use borrow.Author.Tests.{eq-eqb, eqb-true}
 use Rattle.whole.specs.Parts.{part-length, part-piece, part-last, part-second, parts-join}
 use Rattle.answers.specs.Tests.{answer}
-use Rattle.whole.specs.EveryLaws.{both, both-first}
-use Rattle.answers.specs.TestLaws.{answer-pass, answer-none, answer-first, answer-rest}
+use Rattle.whole.specs.Every.{every}
+use Rattle.answers.specs.TestLaws.{AllPass, all-pass, passes-all}
 use Rattle.sets.specs.declared.Numbers.{Numbers}
 use Rattle.records.specs.Layout.{mark, marked, stretch, secretBytes}
 use Rattle.sets.specs.Limits.{seedBytes, digestBytes}
-use Rattle.records.specs.Secret.{secretRecord, sOf, allE, secretSeedA, secretSeedY, secretG, inByteRange, readSecretTests}
-use Rattle.records.specs.SecretPlaces.{SecretLengths}
+use Rattle.records.specs.Secret.{secretRecord, sOf, allE, secretSeedA, secretSeedY, secretG, inByteRange, byteTests, secretTests, readSecretTests}
+use Rattle.records.specs.Asks.{SecretLengths}
 use Rattle.records.specs.PublicLaws.{marked-mark, marked-front}
 
 -- ---- what is written reads back
@@ -78,13 +78,18 @@ module _ (set : Numbers) (s e seedA seedY g : List ℕ) where
     -- reading it into outputs of the right lengths passes
     pub secret-reads : inByteRange s ≡ true → inByteRange e ≡ true
         → answer (readSecretTests set (secretRecord set s e seedA seedY g) (set .n) (set .k * set .n) seedBytes seedBytes digestBytes) ≡ 0
-    unfolding readSecretTests
+    unfolding readSecretTests secretTests byteTests AllPass
     secret-reads h l =
-        answer-pass 1 _
-        (both (eq-eqb _ _ secretRecord-length) (both (eq-eqb (set .n) _ refl) (both (eq-eqb (set .k * set .n) _ refl) refl)))
-        ∙ answer-pass 2 _ secret-marked
-        ∙ answer-pass 5 _ (both (ap inByteRange secret-s ∙ h) (ap inByteRange secret-e ∙ l))
-        ∙ answer-none
+        all-pass (readSecretTests set (secretRecord set s e seedA seedY g) (set .n) (set .k * set .n) seedBytes seedBytes digestBytes)
+        (eq-eqb (set .n) _ refl,
+        (eq-eqb (set .k * set .n) _ refl,
+        (refl,
+        (refl,
+        (refl,
+        (eq-eqb _ _ secretRecord-length,
+        (secret-marked,
+        (ap inByteRange secret-s ∙ h,
+        (ap inByteRange secret-e ∙ l, tt)))))))))
 
 -- ---- what reads is what would be written
 
@@ -125,6 +130,7 @@ module _ (set : Numbers) (secret : List ℕ) (long : length secret ≡ secretByt
 pub secret-read-again : (set : Numbers) (secret : List ℕ) (sLength eLength seedALength seedYLength gLength : ℕ)
     → answer (readSecretTests set secret sLength eLength seedALength seedYLength gLength) ≡ 0
     → secretRecord set (sOf set secret) (allE set secret) (secretSeedA set secret) (secretSeedY set secret) (secretG set secret) ≡ secret
-unfolding readSecretTests
+unfolding readSecretTests secretTests byteTests AllPass every
 secret-read-again set secret sLength eLength seedALength seedYLength gLength e =
-    secret-again set secret (eqb-true _ _ (both-first _ _ (answer-first _ 0 _ e))) (answer-first _ 1 _ (answer-rest _ 0 _ e))
+    let p = passes-all (readSecretTests set secret sLength eLength seedALength seedYLength gLength) refl e .1 .1 .1 .1 .1 in
+    secret-again set secret (eqb-true _ _ (p .0)) (p .1 .0)

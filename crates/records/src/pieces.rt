@@ -4,7 +4,7 @@ ghost use mathlib.Core.List.{_++_};
 ghost use Prim.Native.Nat.{_+_};
 ghost use lib.ListN.{length, getD, take, drop};
 ghost use Rattle.records.specs.Layout.{mark, marked, stretch};
-ghost use Rattle.records.specs.Pieces.{Copies, CopiesAt, CopiesOut, Marks};
+ghost use Rattle.records.specs.Asks.{Copies, CopiesAt, CopiesOut, Marks};
 
 // Copies from into the front of to. What follows stays.
 pub fn copy_in(from: &[u8], to: &mut [u8])

@@ -1,21 +1,23 @@
 // The public record: mark 1, t_1..t_k at their width, seed_a.
-use crate::KeyRecord;
 use crate::pieces;
+use answers::Answer;
 use sets::Numbers;
+use sets::SEED_BYTES;
+use sets::SetI;
 ghost use mathlib.Core.Path.{_≡_};
-ghost use mathlib.Core.Bool.{_&&_};
 ghost use mathlib.Core.List.{_++_};
-ghost use Prim.Native.Nat.{_+_, _*_, _<_};
-ghost use lib.Dec.{eqb};
-ghost use lib.ListN.{length, take, drop};
-ghost use Rattle.answers.specs.Tests.{answer, after};
+ghost use Prim.Native.Nat.{_+_, _*_};
+ghost use lib.ListN.{take, drop};
+ghost use Rattle.answers.specs.Answers.{numberOf};
+ghost use Rattle.answers.specs.Tests.{Answered};
 ghost use Rattle.packing.specs.Digits.{packed};
 ghost use Rattle.sets.specs.Good.{Good};
-ghost use Rattle.records.specs.Answers.{keyRecordNumber};
+ghost use Rattle.sets.specs.Known.{Known};
+ghost use Rattle.sets.specs.SetI.{setI};
 ghost use Rattle.records.specs.Layout.{tBytes, publicBytes};
-ghost use Rattle.sets.specs.Limits.{seedBytes};
-ghost use Rattle.records.specs.Public.{publicRecord, packedT, tOf, allT, seedAOf, tInRange, publicTests, readPublicTests, writePublicTests};
-ghost use Rattle.records.specs.PublicPlaces.{StartsT, ReadsT, PacksT, ScansT, TestsPublic, ReadsAllT, PacksAllT, PutsPublic, TakesPublic};
+ghost use Rattle.records.specs.Public.{publicRecord, packedT, tOf, allT, tInRange, publicTests, readPublicTests, writePublicTests};
+ghost use Rattle.records.specs.Asks.{StartsT, ReadsT, PacksT, ScansT, LongPublic, ReadsAllT, PacksAllT, PutsPublic, TakesPublic};
+ghost use Rattle.records.specs.Promises.{TookPublic, WritesPublic, ReadsPublic};
 
 // The bytes of one packed t_i.
 pub fn t_bytes(set: Numbers) -> usize
@@ -46,7 +48,7 @@ pub fn public_bytes(set: Numbers) -> usize
     requires { ⌜ Good set ⌝ }
     ensures { λ r. ⌜ r ≡ publicBytes set ⌝ }
 {
-    seed_start(set) + crate::SEED_BYTES
+    seed_start(set) + SEED_BYTES
 }
 
 // Whether every coefficient of t is from 0 to q − 1.
@@ -93,7 +95,7 @@ fn passes(set: Numbers, public: &[u8], i: usize, scratch: &mut [u32]) -> bool
 }
 
 // Whether every coefficient of the record's t_1..t_k is from 0 to q − 1. scratch takes one polynomial at a time.
-fn each_in_range(set: Numbers, public: &[u8], scratch: &mut [u32]) -> bool
+fn t_passes_in(set: Numbers, public: &[u8], scratch: &mut [u32]) -> bool
     requires { ⌜ ScansT set (now public) (now scratch) ⌝ }
     ensures { λ r. ⌜ r ≡ tInRange set (allT set (now (public .entry))) ⌝ }
 {
@@ -108,26 +110,48 @@ fn each_in_range(set: Numbers, public: &[u8], scratch: &mut [u32]) -> bool
     true
 }
 
-// The tests of a lent public record: its length, its mark, the range of t. scratch takes one polynomial at a time.
-pub fn test_public(set: Numbers, public: &[u8], scratch: &mut [u32]) -> KeyRecord
-    requires { ⌜ TestsPublic set (now scratch) ⌝ }
-    ensures { λ r. ⌜ keyRecordNumber r ≡ answer (publicTests set (now (public .entry))) ⌝ }
+// The same in set I: makes the scratch.
+fn t_passes_i(set: Numbers, public: &[u8]) -> bool
+    requires { ⌜ set ≡ setI ⌝ }
+    requires { ⌜ LongPublic set (now public) ⌝ }
+    ensures { λ r. ⌜ r ≡ tInRange set (allT set (now (public .entry))) ⌝ }
 {
-    let len = public_bytes(set);
-    if public.len() != len {
-        return KeyRecord::Length;
+    let mut scratch = [0u32; SetI::N];
+    t_passes_in(set, public, &mut scratch)
+}
+
+// The same in every set that there is.
+pub fn t_passes(set: Numbers, public: &[u8]) -> bool
+    requires { ⌜ Known set ⌝ }
+    requires { ⌜ LongPublic set (now public) ⌝ }
+    ensures { λ r. ⌜ r ≡ tInRange set (allT set (now (public .entry))) ⌝ }
+{
+    let digit = set.digit;
+    match digit {
+        1 => t_passes_i(set, public),
+        _ => false,
+    }
+}
+
+// The tests of a lent public record: its length, its mark, the range of t.
+fn test_public(set: Numbers, public: &[u8]) -> Answer
+    requires { ⌜ Known set ⌝ }
+    ensures { λ r. ⌜ Answered (publicTests set (now (public .entry))) (numberOf r) ⌝ }
+{
+    if public.len() != public_bytes(set) {
+        return Answer::Length;
     }
     if !pieces::is_marked(set, 1, public) {
-        return KeyRecord::Mark;
+        return Answer::Mark;
     }
-    if !each_in_range(set, public, scratch) {
-        return KeyRecord::Value;
+    if !t_passes(set, public) {
+        return Answer::Value;
     }
-    KeyRecord::Done
+    Answer::Done
 }
 
 // t = t_1..t_k of the record, in a row.
-pub fn unpack_all(set: Numbers, public: &[u8], t: &mut [u32])
+fn unpack_all(set: Numbers, public: &[u8], t: &mut [u32])
     requires { ⌜ ReadsAllT set (now public) (now t) ⌝ }
     ensures { λ _. ⌜ now (t .exit) ≡ allT set (now (public .entry)) ⌝ }
 {
@@ -142,7 +166,7 @@ pub fn unpack_all(set: Numbers, public: &[u8], t: &mut [u32])
 }
 
 // Writes t_1..t_k, which stand in a row, each into its own stretch of the record. The mark and what follows stay.
-pub fn pack_all(set: Numbers, t: &[u32], public: &mut [u8])
+fn pack_all(set: Numbers, t: &[u32], public: &mut [u8])
     requires { ⌜ PacksAllT set (now t) (now public) ⌝ }
     ensures { λ _. ⌜ now (public .exit) ≡ take 2 (now (public .entry)) ++ (packedT set (now (t .entry)) ++ drop (2 + set .k * tBytes set) (now (public .entry))) ⌝ }
 {
@@ -156,22 +180,6 @@ pub fn pack_all(set: Numbers, t: &[u32], public: &mut [u8])
     }
 }
 
-// Whether t, seed_a and the record have their lengths.
-fn lengths(set: Numbers, t: usize, seed_a: usize, public: usize) -> bool
-    requires { ⌜ Good set ⌝ }
-    ensures { λ r. ⌜ r ≡ (eqb t (set .k * set .n) && (eqb «seed_a» seedBytes && eqb public (publicBytes set))) ⌝ }
-{
-    if t == set.k * set.n {
-        if seed_a == crate::SEED_BYTES {
-            public == public_bytes(set)
-        } else {
-            false
-        }
-    } else {
-        false
-    }
-}
-
 // Writes the record of t and seed_a.
 fn put(set: Numbers, t: &[u32], seed_a: &[u8], public: &mut [u8])
     requires { ⌜ PutsPublic set (now t) (now «seed_a») (now public) ⌝ }
@@ -182,60 +190,69 @@ fn put(set: Numbers, t: &[u32], seed_a: &[u8], public: &mut [u8])
     pieces::copy_at(seed_a, public, seed_start(set));
 }
 
-// Tests t, seed_a and the record's length, and writes the record.
-pub fn write(set: Numbers, t: &[u32], seed_a: &[u8], public: &mut [u8]) -> KeyRecord
+// The tests of writing a record, the output by its length.
+fn test_write(set: Numbers, t: &[u32], seed_a: &[u8], public: usize) -> Answer
     requires { ⌜ Good set ⌝ }
-    ensures number { λ r. ⌜ keyRecordNumber r ≡ answer (writePublicTests set (now (t .entry)) (now («seed_a» .entry)) (length (now (public .entry)))) ⌝ }
-    ensures written { λ _. ⌜ now (public .exit) ≡ after (answer (writePublicTests set (now (t .entry)) (now («seed_a» .entry)) (length (now (public .entry))))) (publicRecord set (now (t .entry)) (now («seed_a» .entry))) (now (public .entry)) ⌝ }
+    ensures { λ r. ⌜ Answered (writePublicTests set (now (t .entry)) (now («seed_a» .entry)) public) (numberOf r) ⌝ }
 {
-    if !lengths(set, t.len(), seed_a.len(), public.len()) {
-        return KeyRecord::Length;
+    if t.len() != set.k * set.n {
+        return Answer::Length;
+    }
+    if seed_a.len() != SEED_BYTES {
+        return Answer::Length;
+    }
+    if public != public_bytes(set) {
+        return Answer::Length;
     }
     if !t_in_range(set, t) {
-        return KeyRecord::Value;
+        return Answer::Value;
     }
-    put(set, t, seed_a, public);
-    KeyRecord::Done
+    Answer::Done
 }
 
-// The tests of reading a record into t and seed_a of these lengths. scratch takes one polynomial at a time.
-fn test_read(set: Numbers, public: &[u8], t: usize, seed_a: usize, scratch: &mut [u32]) -> KeyRecord
-    requires { ⌜ TestsPublic set (now scratch) ⌝ }
-    ensures { λ r. ⌜ keyRecordNumber r ≡ answer (readPublicTests set (now (public .entry)) t «seed_a») ⌝ }
+// Tests t, seed_a and the record's length, and writes the record.
+pub(crate) fn write(set: Numbers, t: &[u32], seed_a: &[u8], public: &mut [u8]) -> Answer
+    requires { ⌜ Good set ⌝ }
+    ensures { λ r. ⌜ WritesPublic set (now (t .entry)) (now («seed_a» .entry)) (now (public .entry)) (now (public .exit)) (numberOf r) ⌝ }
 {
-    if !lengths(set, t, seed_a, public.len()) {
-        return KeyRecord::Length;
+    let tested = test_write(set, t, seed_a, public.len());
+    if tested.is_done() {
+        put(set, t, seed_a, public);
     }
-    test_public(set, public, scratch)
+    tested
+}
+
+// The tests of reading a record into t and seed_a of these lengths.
+fn test_read(set: Numbers, public: &[u8], t: usize, seed_a: usize) -> Answer
+    requires { ⌜ Known set ⌝ }
+    ensures { λ r. ⌜ Answered (readPublicTests set (now (public .entry)) t «seed_a») (numberOf r) ⌝ }
+{
+    if t != set.k * set.n {
+        return Answer::Length;
+    }
+    if seed_a != SEED_BYTES {
+        return Answer::Length;
+    }
+    test_public(set, public)
 }
 
 // t and seed_a of the record.
 fn take_out(set: Numbers, public: &[u8], t: &mut [u32], seed_a: &mut [u8])
     requires { ⌜ TakesPublic set (now public) (now t) (now «seed_a») ⌝ }
-    ensures values { λ _. ⌜ now (t .exit) ≡ allT set (now (public .entry)) ⌝ }
-    ensures seed { λ _. ⌜ now («seed_a» .exit) ≡ seedAOf set (now (public .entry)) ⌝ }
+    ensures { λ _. ⌜ TookPublic set (now (public .entry)) (now (t .exit)) (now («seed_a» .exit)) ⌝ }
 {
     unpack_all(set, public, t);
     pieces::copy_out(public, seed_start(set), seed_a);
 }
 
-// Tests the record and the lengths of t and seed_a, and reads the record into them. scratch takes one polynomial at a time.
-pub fn read(
-    set: Numbers,
-    public: &[u8],
-    t: &mut [u32],
-    seed_a: &mut [u8],
-    scratch: &mut [u32],
-) -> KeyRecord
-    requires { ⌜ TestsPublic set (now scratch) ⌝ }
-    ensures number { λ r. ⌜ keyRecordNumber r ≡ answer (readPublicTests set (now (public .entry)) (length (now (t .entry))) (length (now («seed_a» .entry)))) ⌝ }
-    ensures values { λ _. ⌜ now (t .exit) ≡ after (answer (readPublicTests set (now (public .entry)) (length (now (t .entry))) (length (now («seed_a» .entry))))) (allT set (now (public .entry))) (now (t .entry)) ⌝ }
-    ensures seed { λ _. ⌜ now («seed_a» .exit) ≡ after (answer (readPublicTests set (now (public .entry)) (length (now (t .entry))) (length (now («seed_a» .entry))))) (seedAOf set (now (public .entry))) (now («seed_a» .entry)) ⌝ }
+// Tests the record and the lengths of t and seed_a, and reads the record into them.
+pub(crate) fn read(set: Numbers, public: &[u8], t: &mut [u32], seed_a: &mut [u8]) -> Answer
+    requires { ⌜ Known set ⌝ }
+    ensures { λ r. ⌜ ReadsPublic set (now (public .entry)) (now (t .entry)) (now (t .exit)) (now («seed_a» .entry)) (now («seed_a» .exit)) (numberOf r) ⌝ }
 {
-    let tested = test_read(set, public, t.len(), seed_a.len(), scratch);
-    let KeyRecord::Done = tested else {
-        return tested;
-    };
-    take_out(set, public, t, seed_a);
-    KeyRecord::Done
+    let tested = test_read(set, public, t.len(), seed_a.len());
+    if tested.is_done() {
+        take_out(set, public, t, seed_a);
+    }
+    tested
 }

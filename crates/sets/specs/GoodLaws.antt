@@ -2,12 +2,14 @@
 --     q-some                   there are residues
 --     n-some, n-few            how many coefficients a polynomial has at least and at most
 --     z-narrow, y-small        z and y + s c fit a word
---     row-few, row-inside      how many k polynomials in a row have at most, so that every place among them fits a word
+--     row-few, row-word, row-inside      how many k polynomials in a row have at most, so that every place among them fits a word
 -- Assumes nothing.
 use Prim.Native.Nat.{ℕ, _+_, _*_, _≤_, _<_, _^_}
 use native.Mathlib.Nat.{mul-le-mul}
 use native.Mathlib.Omega.{arith}
 use lib.Pow.{pow-pos, pow-mono}
+use mir.Syntax.{w64}
+use mir.Val.{Fits}
 use Rattle.whole.specs.Rows.{row-fits}
 use Rattle.sets.specs.declared.Numbers.{Numbers}
 use Rattle.sets.specs.Good.{Good}
@@ -34,6 +36,9 @@ module _ {set : Numbers} (good : Good set) where
 
   pub row-few : set .k * set .n ≤ 16711680
   row-few = mul-le-mul (good .k-few) n-few
+
+  pub row-word : Fits w64 (set .k * set .n)
+  row-word = record { fits = omega (arith, row-few) }
 
   -- polynomial i ends among them
   pub row-inside : {i : ℕ} → i < set .k → set .n * i + set .n ≤ 16711680

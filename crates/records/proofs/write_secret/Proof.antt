@@ -1,22 +1,15 @@
--- `records::write_secret` meets its contract: the general function at set I. Assumes nothing.
+-- `records::write_secret` meets its contract. It is `secret::write` in set I. Assumes nothing.
 use borrow.Author.Needs.{needs}
+use Rattle.records.proofs.SetISteps.{writes-secret-i}
+use Rattle.sets.specs.SetI.{good-i}
 use Rattle.records.proofs.write_secret.Statement.{statement}
 use Rattle.records.proofs.write_secret.Tie as tie
-use Rattle.sets.specs.SetI.{setI-good}
-
-numbers-requires : tie.Need-numbers-requires
-numbers-requires c κs = search needs
-
-write-requires : tie.Need-write-requires
-write-requires c κs = rw (c .before .numbers .ensures) setI-good
-
-same-length : tie.Need-same-length
-same-length c = search needs
-
-returns : tie.Need-returns
-returns c =
-    let done = c .before .before in
-    rw (done .before .before .numbers .ensures) at (done .write .ensures)
 
 pub write-secret-spec : {M : Type 1} → statement M
-write-secret-spec = tie.close (tie.spec numbers-requires write-requires same-length returns)
+write-secret-spec =
+    tie.close
+    (tie.spec
+    (λ c κs. search needs)
+    (λ c κs. search (good-i, needs))
+    (λ c. search needs)
+    (λ c. search (writes-secret-i, needs)))

@@ -1,59 +1,17 @@
 -- `records::secret::write` meets its contract. Assumes nothing.
-use borrow.Author.Tests.{not-true, not-false}
-use Rattle.answers.specs.TestLaws.{output-new, output-kept}
-use Rattle.records.proofs.AnswerLaws.{write-length, write-value, write-passes}
-use Rattle.records.specs.Secret.{writeSecretTests}
-use Rattle.records.proofs.SecretSteps.{write-puts}
 use borrow.Author.Needs.{needs}
+use Rattle.answers.specs.OutputLaws.{made, kept}
+use Rattle.records.proofs.SecretSteps.{write-puts}
 use Rattle.records.proofs.secret.write.Statement.{statement}
 use Rattle.records.proofs.secret.write.Tie as tie
-
-lengths-requires : tie.Need-lengths-requires
-lengths-requires c κs = search needs
-
-returns : tie.Need-returns
-unfolding writeSecretTests
-returns c =
-    let number = write-length _ (c .before .lengths .ensures) (not-true _ (c .if1 .taken)) in
-    (number, output-kept 0 _ _ number)
-
-both-in-range-requires : tie.Need-both-in-range-requires
-both-in-range-requires c κs = search needs
-
-returns-2 : tie.Need-returns-2
-unfolding writeSecretTests
-returns-2 c =
-    let passed = c .before .before in
-    let number = write-value _ (passed .before .lengths .ensures) (not-false _ (passed .if1 .left)) (c .before .both-in-range .ensures) (not-true _ (c .if2 .taken)) in
-    (number, output-kept 4 _ _ number)
-
-put-requires : tie.Need-put-requires
-put-requires c κs =
-    let passed = c .before .before .before in
-    let start = passed .before .before .before .before .before .before .before .before in
-    let a = start .args in
-    write-puts (a .set) (a .s .now) (a .e .now) (a .seed-a .now) (a .seed-y .now) (a .g .now) (a .secret .now) (start .pre) (passed .before .lengths .ensures) (not-false _ (passed .if1 .left))
-
-same-length : tie.Need-same-length
-same-length c = search needs
-
-returns-3 : tie.Need-returns-3
-unfolding writeSecretTests
-returns-3 c =
-    let done = c .before .before in
-    let ranged = done .before .before in
-    let passed = ranged .before .before in
-    let number = write-passes _ (passed .before .lengths .ensures) (not-false _ (passed .if1 .left)) (ranged .before .both-in-range .ensures) (not-false _ (ranged .if2 .left)) in
-    (number, output-new _ number (done .put .ensures))
 
 pub write-spec : {M : Type 1} → statement M
 write-spec =
     tie.close
     (tie.spec
-    lengths-requires
-    returns
-    both-in-range-requires
-    returns-2
-    put-requires
-    same-length
-    returns-3)
+    (λ c κs. search needs)
+    (λ c κs. search needs)
+    (λ c κs. search (write-puts, needs))
+    (λ c. search needs)
+    (λ c. search (made, needs))
+    (λ c. search (kept, needs)))

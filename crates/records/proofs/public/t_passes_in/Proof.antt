@@ -1,11 +1,11 @@
--- `records::public::each_in_range` meets its contract. The loop's invariant: t_1..t_i are in range. Assumes nothing.
+-- `records::public::t_passes_in` meets its contract. The loop's invariant: t_1..t_i are in range. Assumes nothing.
 use native.Mathlib.Omega.{arith}
 use Prim.Native.Nat.{_-_}
 use borrow.Author.Tests.{not-true, not-false}
 use mathlib.Core.Path.{sym, _∙_}
 use Rattle.records.proofs.PublicSteps.{Ranging, ranging-none, ranging-reads, ranging-more, ranging-fails, ranging-all}
-use Rattle.records.proofs.public.each_in_range.Statement.{statement}
-use Rattle.records.proofs.public.each_in_range.Tie as tie
+use Rattle.records.proofs.public.t_passes_in.Statement.{statement}
+use Rattle.records.proofs.public.t_passes_in.Tie as tie
 
 abbrev Inv-loop : tie.InvT-loop
 Inv-loop set public scratch₀ k i₀ scratch i = Ranging set public scratch i
@@ -47,8 +47,8 @@ same-length-2 c = c .before .loop .inv .room ∙ sym (c .before .before .before 
 returns-2 : tie.Need-returns-2 Inv-loop μ-loop
 returns-2 c = ranging-all (c .before .loop .inv) (c .loop-test .left)
 
-pub each-in-range-spec : {M : Type 1} → statement M
-each-in-range-spec =
+pub t-passes-in-spec : {M : Type 1} → statement M
+t-passes-in-spec =
     tie.close
     (tie.spec
     Inv-loop

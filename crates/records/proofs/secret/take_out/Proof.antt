@@ -1,0 +1,20 @@
+-- `records::secret::take_out` meets its contract. Assumes nothing.
+use borrow.Author.Needs.{needs}
+use Rattle.records.proofs.SecretSteps.{take-s, take-e, takes-tail}
+use Rattle.records.proofs.secret.take_out.Statement.{statement}
+use Rattle.records.proofs.secret.take_out.Tie as tie
+
+pub take-out-spec : {M : Type 1} → statement M
+take-out-spec =
+    tie.close
+    (tie.spec
+    (λ c κs. search needs)
+    (λ c κs. search needs)
+    (λ c κs. search needs)
+    (λ c κs. search (takes-tail, needs))
+    (λ c. search needs)
+    (λ c. search needs)
+    (λ c. search needs)
+    (λ c. search needs)
+    (λ c. search needs)
+    (λ c. search (take-s, take-e, needs)))
