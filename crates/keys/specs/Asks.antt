@@ -21,45 +21,42 @@ pub record ForT (set : Numbers) (a sr e t : List ℕ) : Type 0 where
   pub e-long : length e ≡ set .n
   pub t-long : length t ≡ set .n
 
--- what `each_e_passes` asks: e_1..e_k in a row, and h places
-pub record ForE (set : Numbers) (e slots : List ℕ) : Type 0 where
+-- what the tests of e_1..e_k ask: their length
+pub record LongE (set : Numbers) (e : List ℕ) : Type 0 where
   pub good : Good set
   pub e-long : length e ≡ set .k * set .n
-  pub slots-long : length slots ≡ set .h
 
--- what `next_t` asks: s modulo q, one polynomial of signed bytes, a stream that still has a_i, and places for a_i and t_i
-pub record ForNext (set : Numbers) (draw : DrawA) (sr e a t : List ℕ) : Type 0 where
+-- what `next_t` asks: s modulo q, one polynomial of signed bytes, a stream that still has a_i, and a place for t_i
+pub record ForNext (set : Numbers) (draw : DrawA) (sr e t : List ℕ) : Type 0 where
   pub good : Good set
   pub valid : ValidA draw
   pub needed : set .n ≤ draw .need
   pub s-is : Residues set sr
   pub e-long : length e ≡ set .n
-  pub a-long : length a ≡ set .n
   pub t-long : length t ≡ set .n
 
--- what `put_t` asks: s modulo q, e_1..e_k in a row, places for one a_i and one t_i, and a public record of the right length
-pub record ForPut (set : Numbers) (sr e a t public : List ℕ) : Type 0 where
-  pub good : Good set
+-- and a place for a_i
+pub record ForNextIn (set : Numbers) (draw : DrawA) (sr e a t : List ℕ) : Type 0 where
+  pub for-next : ForNext set draw sr e t
+  pub a-long : length a ≡ set .n
+
+-- what `put_t_in` asks: s modulo q, e_1..e_k in a row, a place for one t_i, and a public record of the right length
+pub record ForPut (set : Numbers) (sr e t public : List ℕ) : Type 0 where
   pub s-is : Residues set sr
   pub e-long : length e ≡ set .k * set .n
-  pub a-long : length a ≡ set .n
   pub t-long : length t ≡ set .n
   pub public-long : length public ≡ publicBytes set
 
--- places for s modulo q, one a_i and one t_i
-pub record Places (set : Numbers) (sr a t : List ℕ) : Type 0 where
-  pub s-long : length sr ≡ set .n
-  pub a-long : length a ≡ set .n
-  pub t-long : length t ≡ set .n
-
--- what writing the public record asks: the lengths, and the places
-pub record ForPublic (set : Numbers) (s e seedA public sr a t : List ℕ) : Type 0 where
-  pub good : Good set
+-- what `put_t` asks: s, e_1..e_k in a row, and a public record of the right length
+pub record ForPutS (set : Numbers) (s e public : List ℕ) : Type 0 where
   pub s-long : length s ≡ set .n
   pub e-long : length e ≡ set .k * set .n
-  pub seedA-long : length seedA ≡ seedBytes
   pub public-long : length public ≡ publicBytes set
-  pub places : Places set sr a t
+
+-- what writing the public record asks
+pub record ForPublic (set : Numbers) (s e seedA public : List ℕ) : Type 0 where
+  pub for-put : ForPutS set s e public
+  pub seedA-long : length seedA ≡ seedBytes
 
 -- what writing the secret record asks: the lengths, with the public record's
 pub record ForSecret (set : Numbers) (s e seedA seedY public secret : List ℕ) : Type 0 where
@@ -70,20 +67,3 @@ pub record ForSecret (set : Numbers) (s e seedA seedY public secret : List ℕ) 
   pub seedY-long : length seedY ≡ seedBytes
   pub public-long : length public ≡ publicBytes set
   pub secret-long : length secret ≡ secretBytes set
-
--- what writing both records asks
-pub record ForBoth (set : Numbers) (s e seedA seedY public secret sr a t : List ℕ) : Type 0 where
-  pub for-public : ForPublic set s e seedA public sr a t
-  pub seedY-long : length seedY ≡ seedBytes
-  pub secret-long : length secret ≡ secretBytes set
-
--- what the tests ask: a good set, and h places
-pub record ForTests (set : Numbers) (slots : List ℕ) : Type 0 where
-  pub good : Good set
-  pub slots-long : length slots ≡ set .h
-
--- what key making asks of its set and of the places that are lent to it
-pub record Scratch (set : Numbers) (sr a t slots : List ℕ) : Type 0 where
-  pub good : Good set
-  pub places : Places set sr a t
-  pub slots-long : length slots ≡ set .h

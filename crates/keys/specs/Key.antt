@@ -1,7 +1,7 @@
 -- Key making, Algorithm 1 with s, e_1..e_k, seed_a and seed_y lent: t_i = a_i s + e_i modulo q.
 -- Assumes nothing: these are definitions.
-use mathlib.Core.Bool.{Bool, _&&_}
-use mathlib.Core.List.{List, [], _∷_}
+use mathlib.Core.Bool.{Bool}
+use mathlib.Core.List.{List, [], _∷_, _++_}
 use Prim.Native.Nat.{ℕ, _*_}
 use lib.Dec.{eqb}
 use lib.IntN.{_+ℤ_}
@@ -17,7 +17,7 @@ use Rattle.sampling.specs.Streams.{aOf, keyDigest}
 use Rattle.records.specs.Layout.{publicBytes, secretBytes}
 use Rattle.sets.specs.Limits.{seedBytes}
 use Rattle.records.specs.Public.{packedT, publicRecord}
-use Rattle.records.specs.Secret.{secretRecord, eOf, inByteRange}
+use Rattle.records.specs.Secret.{secretRecord, eOf, byteTests}
 
 -- t_(i + 1)
 unfoldable pub keyT : Numbers → List ℕ → List ℕ → List ℕ → ℕ → List ℕ
@@ -39,11 +39,18 @@ secretOf set s e seedA seedY = secretRecord set s e seedA seedY (keyDigest set (
 unfoldable pub eachEPasses : Numbers → List ℕ → Bool
 eachEPasses set e = eachBelow (set .k) (λ i. sumPasses (set .h) (set .e) (eOf set e i))
 
+-- ---- the tests
+
+-- those of s and e_1..e_k, which signing makes too
+unfoldable pub secretsTests : Numbers → List ℕ → List ℕ → List Test
+secretsTests set s e = byteTests s e ++ ((sumPasses (set .h) (set .s) s orElse 6) ∷ (eachEPasses set e orElse 7) ∷ [])
+
 unfoldable pub makeKeyTests : Numbers → List ℕ → List ℕ → List ℕ → List ℕ → ℕ → ℕ → List Test
 makeKeyTests set s e seedA seedY publicLength secretLength =
-    ((eqb (length s) (set .n) && (eqb (length e) (set .k * set .n) && (eqb (length seedA) seedBytes && (eqb (length seedY) seedBytes
-    && (eqb publicLength (publicBytes set) && eqb secretLength (secretBytes set)))))) orElse 1)
-    ∷ ((inByteRange s && inByteRange e) orElse 5)
-    ∷ (sumPasses (set .h) (set .s) s orElse 6)
-    ∷ (eachEPasses set e orElse 7)
-    ∷ []
+    (eqb (length s) (set .n) orElse 1)
+    ∷ (eqb (length e) (set .k * set .n) orElse 1)
+    ∷ (eqb (length seedA) seedBytes orElse 1)
+    ∷ (eqb (length seedY) seedBytes orElse 1)
+    ∷ (eqb publicLength (publicBytes set) orElse 1)
+    ∷ (eqb secretLength (secretBytes set) orElse 1)
+    ∷ secretsTests set s e

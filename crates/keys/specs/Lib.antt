@@ -1,5 +1,5 @@
-pub mod Answers
 pub mod Key
 pub mod KeyLaws
 pub mod Steps
 pub mod Asks
+pub mod Promises

@@ -21,7 +21,7 @@ pub fn put_secret(
     ensures { λ _. ⌜ now (secret .exit) ≡ secretRecord set (now (s .entry)) (now (e .entry)) (now («seed_a» .entry)) (now («seed_y» .entry)) (keyDigest set (stretch 2 (set .k * tBytes set) (now (public .entry)))) ⌝ }
 {
     let end = records::public::seed_start(set);
-    let mut g = [0u8; records::DIGEST_BYTES];
+    let mut g = [0u8; sets::DIGEST_BYTES];
     sampling::digests::key_digest(set, &public[2..end], &mut g);
     records::secret::put(set, s, e, seed_a, seed_y, &g, secret);
 }

@@ -1,21 +1,28 @@
-// The tests of key making, all made before the first write.
-use crate::KeyAnswer;
+// The tests of key making, all made before the first write; those of s and e_1..e_k are signing's too.
+use answers::Answer;
 use sets::Numbers;
+use sets::SEED_BYTES;
 ghost use mathlib.Core.Path.{_≡_};
-ghost use mathlib.Core.Bool.{_&&_};
-ghost use Prim.Native.Nat.{_*_};
-ghost use lib.Dec.{eqb};
-ghost use Rattle.answers.specs.Tests.{answer};
+ghost use Rattle.answers.specs.Answers.{numberOf};
+ghost use Rattle.answers.specs.Tests.{Answered};
+ghost use Rattle.ring.specs.Largest.{sumPasses};
 ghost use Rattle.sets.specs.Good.{Good};
-ghost use Rattle.records.specs.Layout.{publicBytes, secretBytes};
-ghost use Rattle.sets.specs.Limits.{seedBytes};
-ghost use Rattle.keys.specs.Answers.{keyAnswerNumber};
-ghost use Rattle.keys.specs.Asks.{ForE, ForTests};
-ghost use Rattle.keys.specs.Key.{eachEPasses, makeKeyTests};
+ghost use Rattle.keys.specs.Asks.{LongE};
+ghost use Rattle.keys.specs.Key.{eachEPasses, secretsTests, makeKeyTests};
 
-// Whether checkE passes for every e_i. slots takes the h largest of one e_i at a time.
-pub fn each_e_passes(set: Numbers, e: &[u8], slots: &mut [u32]) -> bool
-    requires { ⌜ ForE set (now e) (now slots) ⌝ }
+// Whether the h largest of one polynomial sum to at most the bound. Makes the places for them.
+fn sum_passes(set: Numbers, bytes: &[u8], bound: u32) -> bool
+    requires { ⌜ Good set ⌝ }
+    ensures { λ r. ⌜ r ≡ sumPasses (set .h) bound (now (bytes .entry)) ⌝ }
+{
+    let h = set.h;
+    let mut slots = [0u32; 256];
+    ring::largest::sum_passes(bytes, &mut slots[..h], bound)
+}
+
+// Whether checkE passes for every e_i.
+fn each_e_passes(set: Numbers, e: &[u8]) -> bool
+    requires { ⌜ LongE set (now e) ⌝ }
     ensures { λ r. ⌜ r ≡ eachEPasses set (now (e .entry)) ⌝ }
 {
     let n = set.n;
@@ -23,7 +30,7 @@ pub fn each_e_passes(set: Numbers, e: &[u8], slots: &mut [u32]) -> bool
     let mut i = 0;
     while i < k {
         let start = n * i;
-        if !ring::largest::sum_passes(&e[start..start + n], slots, set.e) {
+        if !sum_passes(set, &e[start..start + n], set.e) {
             return false;
         }
         i += 1;
@@ -31,39 +38,28 @@ pub fn each_e_passes(set: Numbers, e: &[u8], slots: &mut [u32]) -> bool
     true
 }
 
-// Whether the inputs and the outputs have their lengths.
-fn lengths(
-    set: Numbers,
-    s: usize,
-    e: usize,
-    seed_a: usize,
-    seed_y: usize,
-    public: usize,
-    secret: usize,
-) -> bool
-    requires { ⌜ Good set ⌝ }
-    ensures { λ r. ⌜ r ≡ (eqb s (set .n) && (eqb e (set .k * set .n) && (eqb «seed_a» seedBytes && (eqb «seed_y» seedBytes && (eqb public (publicBytes set) && eqb secret (secretBytes set)))))) ⌝ }
+// The tests 5, 6 and 7, of s and e_1..e_k.
+pub fn test_secrets(set: Numbers, s: &[u8], e: &[u8]) -> Answer
+    requires { ⌜ LongE set (now e) ⌝ }
+    ensures { λ r. ⌜ Answered (secretsTests set (now (s .entry)) (now (e .entry))) (numberOf r) ⌝ }
 {
-    if s != set.n {
-        return false;
+    if !records::secret::in_byte_range(s) {
+        return Answer::Value;
     }
-    if e != set.k * set.n {
-        return false;
+    if !records::secret::in_byte_range(e) {
+        return Answer::Value;
     }
-    if seed_a != records::SEED_BYTES {
-        return false;
+    if !sum_passes(set, s, set.s) {
+        return Answer::SumS;
     }
-    if seed_y != records::SEED_BYTES {
-        return false;
+    if !each_e_passes(set, e) {
+        return Answer::SumE;
     }
-    if public != records::public::public_bytes(set) {
-        return false;
-    }
-    secret == records::secret::secret_bytes(set)
+    Answer::Done
 }
 
-// The tests 1, 5, 6 and 7, the outputs by their lengths. slots takes the h largest of one polynomial at a time.
-pub fn test_inputs(
+// The tests of key making, the outputs by their lengths.
+pub(crate) fn test_inputs(
     set: Numbers,
     s: &[u8],
     e: &[u8],
@@ -71,31 +67,27 @@ pub fn test_inputs(
     seed_y: &[u8],
     public: usize,
     secret: usize,
-    slots: &mut [u32],
-) -> KeyAnswer
-    requires { ⌜ ForTests set (now slots) ⌝ }
-    ensures { λ r. ⌜ keyAnswerNumber r ≡ answer (makeKeyTests set (now (s .entry)) (now (e .entry)) (now («seed_a» .entry)) (now («seed_y» .entry)) public secret) ⌝ }
+) -> Answer
+    requires { ⌜ Good set ⌝ }
+    ensures { λ r. ⌜ Answered (makeKeyTests set (now (s .entry)) (now (e .entry)) (now («seed_a» .entry)) (now («seed_y» .entry)) public secret) (numberOf r) ⌝ }
 {
-    if !lengths(
-        set,
-        s.len(),
-        e.len(),
-        seed_a.len(),
-        seed_y.len(),
-        public,
-        secret,
-    ) {
-        return KeyAnswer::Length;
+    if s.len() != set.n {
+        return Answer::Length;
     }
-    if !records::secret::both_in_range(s, e) {
-        return KeyAnswer::Secret;
+    if e.len() != set.k * set.n {
+        return Answer::Length;
     }
-    if !ring::largest::sum_passes(s, slots, set.s) {
-        return KeyAnswer::SumS;
+    if seed_a.len() != SEED_BYTES {
+        return Answer::Length;
     }
-    if each_e_passes(set, e, slots) {
-        KeyAnswer::Done
-    } else {
-        KeyAnswer::SumE
+    if seed_y.len() != SEED_BYTES {
+        return Answer::Length;
     }
+    if public != records::public::public_bytes(set) {
+        return Answer::Length;
+    }
+    if secret != records::secret::secret_bytes(set) {
+        return Answer::Length;
+    }
+    test_secrets(set, s, e)
 }

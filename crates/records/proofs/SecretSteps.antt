@@ -19,6 +19,7 @@ use Rattle.sets.specs.Good.{Good}
 use Rattle.sets.specs.Limits.{seedBytes, digestBytes}
 use Rattle.records.specs.Layout.{mark}
 use Rattle.records.specs.Secret.{secretRecord, sOf, allE, secretSeedA, secretSeedY, secretG, inByteRange, byteTests, secretTests, readSecretTests, writeSecretTests}
+use Rattle.records.specs.SecretLaws.{s-lent, e-lent}
 use Rattle.records.specs.Asks.{PutsSecret, PutsTail, TakesTail, TakesSecret}
 
 -- ---- the range of secret bytes
@@ -42,14 +43,7 @@ module _ (bytes : List ℕ) {i : ℕ} (p : Testing bytes i) where
 pub bytes-lent : (set : Numbers) (secret : List ℕ) {middle end number : ℕ} → middle ≡ 2 + set .n → end ≡ 2 + set .n + set .k * set .n
     → Answered (byteTests (take (middle - 2) (drop 2 secret)) (take (end - middle) (drop middle secret))) number
     → Answered (byteTests (sOf set secret) (allE set secret)) number
-unfolding sOf allE
-bytes-lent set secret {middle} {end} e f a = rw (first, second, e) at a
-  where
-    first : middle - 2 ≡ set .n
-    first = omega arith
-
-    second : end - middle ≡ set .k * set .n
-    second = omega arith
+bytes-lent set secret e f a = rw (s-lent set secret e f, e-lent set secret e f) at a
 
 -- ---- reading
 

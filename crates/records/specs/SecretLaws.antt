@@ -1,13 +1,14 @@
 -- Laws of the secret record. What is written reads back: `secret-s`, `secret-e`, `secret-seedA`, `secret-seedY`, `secret-g`,
--- `secret-marked`, and `secret-reads`, that no test fails; what reads is what would be written: `secret-again`.
+-- `secret-marked`, and `secret-reads`, that no test fails; what reads is what would be written: `secret-again`. And s and e as stretches
+-- that are lent: `s-lent`, `e-lent`.
 -- Assumes nothing.
 use mathlib.Core.Path.{_≡_, refl, sym, ap, ap₂, _∙_}
 use mathlib.Core.Bool.{true}
 use mathlib.Core.List.{List, [], _++_}
-use Prim.Native.Nat.{ℕ, _+_, _*_}
+use Prim.Native.Nat.{ℕ, _+_, _*_, _-_}
 use native.Mathlib.Nat.{add-zero, add-assoc, le-of-eq}
 use native.Mathlib.Omega.{arith}
-use lib.ListN.{length, length-append}
+use lib.ListN.{length, take, drop, length-append}
 use lib.Seq.{take-all}
 use borrow.Author.Tests.{eq-eqb, eqb-true}
 use Rattle.whole.specs.Parts.{part-length, part-piece, part-last, part-second, parts-join}
@@ -134,3 +135,27 @@ unfolding readSecretTests secretTests byteTests AllPass every
 secret-read-again set secret sLength eLength seedALength seedYLength gLength e =
     let p = passes-all (readSecretTests set secret sLength eLength seedALength seedYLength gLength) refl e .1 .1 .1 .1 .1 in
     secret-again set secret (eqb-true _ _ (p .0)) (p .1 .0)
+
+-- ---- s and e_1..e_k as a function is lent them, by where they start and end
+
+module _ (set : Numbers) (secret : List ℕ) {middle end : ℕ} (a : middle ≡ 2 + set .n) (b : end ≡ 2 + set .n + set .k * set .n) where
+  s-size : middle - 2 ≡ set .n
+  s-size = omega arith
+
+  e-size : end - middle ≡ set .k * set .n
+  e-size = omega arith
+
+  pub s-lent : take (middle - 2) (drop 2 secret) ≡ sOf set secret
+  unfolding sOf
+  s-lent = rw s-size
+
+  pub e-lent : take (end - middle) (drop middle secret) ≡ allE set secret
+  unfolding allE
+  e-lent = rw (e-size, a)
+
+  module _ (long : length secret ≡ secretBytes set) where
+    pub s-lent-long : length (take (middle - 2) (drop 2 secret)) ≡ set .n
+    s-lent-long = ap length s-lent ∙ secret-lengths set secret long .s-long
+
+    pub e-lent-long : length (take (end - middle) (drop middle secret)) ≡ set .k * set .n
+    e-lent-long = ap length e-lent ∙ secret-lengths set secret long .e-long

@@ -58,7 +58,7 @@ pub fn secret_bytes(set: Numbers) -> usize
 }
 
 // Whether no byte is −128.
-fn in_byte_range(bytes: &[u8]) -> bool
+pub fn in_byte_range(bytes: &[u8]) -> bool
     ensures { λ r. ⌜ r ≡ inByteRange (now (bytes .entry)) ⌝ }
 {
     let mut i = 0;
@@ -72,7 +72,7 @@ fn in_byte_range(bytes: &[u8]) -> bool
 }
 
 // The tests of s and e_1..e_k: no byte is −128.
-pub fn test_bytes(s: &[u8], e: &[u8]) -> Answer
+fn test_bytes(s: &[u8], e: &[u8]) -> Answer
     ensures { λ r. ⌜ Answered (byteTests (now (s .entry)) (now (e .entry))) (numberOf r) ⌝ }
 {
     if !in_byte_range(s) {

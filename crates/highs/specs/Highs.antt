@@ -1,0 +1,35 @@
+-- The high parts on the way to c': what was absorbed of them, one polynomial more, and c' of them.
+-- Assumes nothing: these are definitions.
+use mathlib.Core.Path.{_≡_}
+use mathlib.Core.List.{List, _++_, map}
+use Prim.Native.Nat.{ℕ}
+use lib.IntN.{ℤ, pos}
+use lib.ListN.{length}
+use Rattle.whole.specs.Every.{every}
+use Rattle.whole.specs.Twos.{twos}
+use Rattle.rounding.specs.Parts.{high}
+use Rattle.rounding.specs.Tests.{fitsByte}
+use Rattle.shake.specs.Sponge.{absorbed}
+use Rattle.sets.specs.declared.Numbers.{Numbers}
+use Rattle.sets.specs.Limits.{seedBytes}
+use Rattle.sets.specs.Marks.{fresh}
+use Rattle.sampling.specs.Streams.{challenge}
+use Rattle.highs.specs.declared.Highs.{Highs}
+
+-- the high parts of one polynomial
+abbrev pub highParts : Numbers → List ℕ → List ℤ
+highParts set v = map (λ x. high (set .q) (set .d) (pos x)) v
+
+-- these have been absorbed, one signed byte each, and tested
+pub record Held (set : Numbers) (parts : List ℤ) (r : Highs) : Type 0 where
+  pub state-is : r .state ≡ absorbed (fresh (set .digit) 6) (map (twos 8) parts)
+  pub fit-is : r .fit ≡ every fitsByte parts
+
+-- those of one polynomial more
+pub record Adds (set : Numbers) (before : Highs) (v : List ℕ) (r : Highs) : Type 0 where
+  pub held : (parts : List ℤ) → Held set parts before → Held set (parts ++ highParts set v) r
+
+-- c' of them, of G of the message and of g
+pub record Hashes (set : Numbers) (highs : Highs) (digest g c′ : List ℕ) : Type 0 where
+  pub long : length c′ ≡ seedBytes
+  pub is : (parts : List ℤ) → Held set parts highs → c′ ≡ challenge set parts digest g

@@ -1,0 +1,2 @@
+pub mod Highs
+pub mod Asks
