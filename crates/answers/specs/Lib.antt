@@ -1,3 +1,4 @@
 pub mod Tests
 pub mod TestLaws
 pub mod Answers
+pub mod OutputLaws
