@@ -2,3 +2,4 @@ pub mod Tests
 pub mod TestLaws
 pub mod OutputLaws
 pub mod Answers
+pub mod OutputLaws

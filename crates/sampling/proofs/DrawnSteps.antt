@@ -1,48 +1,59 @@
 -- The steps of drawing from a sponge, a stretch at a time.
 --     buffer-..           a buffer whose first bytes are squeezed
 --     values-squeezed     the values of the candidates to come are those of the next k, then those of the others
---     putting-..          a loop over a stretch whose every candidate is used
 --     squeezing-..        a loop over stretches: what stands in the output and what is still to come are together all
 --     gathering-..        the same for positions with signs
 -- Assumes nothing.
 use mathlib.Core.Path.{_≡_, refl, sym, ap, _∙_}
 use mathlib.Core.List.{List, [], _∷_, _++_, map, append-nil, append-assoc}
-use Prim.Native.Nat.{ℕ, zero, suc, _+_, _-_, _*_, _/_, _%_, _≤_, _<_, zero-le, suc-le-suc}
+use Prim.Native.Nat.{ℕ, _+_, _-_, _*_, _/_, _%_, _^_, _≤_, _<_, zero-le}
 use native.Mathlib.Nat.{mul-add, mul-mod-right, mul-div-right, sub-zero}
 use native.Mathlib.Omega.{arith}
-use mathlib.Core.Bool.{Bool, true, false, cond}
 use lib.IntN.{ℤ}
 use lib.ListN.{length, getD, take, drop, length-drop, length-append, length-map}
 use lib.Seq.{take-at, length-take-le}
 use Rattle.shake.specs.declared.Sponge.{Sponge}
 use Rattle.shake.specs.Sponge.{squeezed, afterSqueeze}
 use Rattle.shake.specs.Pieces.{squeezed-add, length-squeezed}
-use Rattle.sampling.specs.Candidates.{emit, candidates}
+use Rattle.sampling.specs.Candidates.{held, candidates}
 use Rattle.sampling.specs.CandidatesLaws.{candidates-length, candidates-append}
-use Rattle.sampling.specs.Values.{takesValue, reduced, values}
-use Rattle.sampling.specs.ValuesLaws.{part, part-none, part-most, part-enough, values-part, values-append}
+use Rattle.sampling.specs.Values.{values}
+use Rattle.sampling.specs.ValuesLaws.{part, lessOf, part-none, part-most, part-short, part-enough, values-part, values-append}
 use Rattle.sampling.specs.Stored.{Stored, stored-none, stored-append, stored-length, stored-front, stored-whole, StoredDrawn, stored-drawn-none, stored-drawn-append}
-use Rattle.sampling.specs.Positions.{Drawn, positions, positionsOf, signsOf, drawnCandidates}
+use Rattle.sampling.specs.Positions.{Drawn, positions, placesOf, positionsOf, signsOf, drawnCandidates, AreDrawn}
+use Rattle.sampling.specs.Asks.{ValuesStretch, Less, LessStretch, Placing, PositionsStretch}
 use Rattle.sampling.specs.PositionsLaws.{partPositions, part-positions-none, part-positions-most, part-positions-enough, positions-part, positions-append, drawn-length, drawn-append}
-use Rattle.sampling.specs.DrawnAsks.{AreDrawn}
-use Rattle.sampling.proofs.ValueSteps.{first, first-none, first-more, first-all, Kept}
+use Rattle.sampling.proofs.ValueSteps.{Kept}
 
 -- ---- a buffer whose first n bytes are squeezed
 
-module _ (n : ℕ) (buffer last : List ℕ) (s : Sponge) (room : n ≤ length buffer) where
-  lent : length (take n buffer) ≡ n
-  lent = length-take-le n buffer room
+-- `bytes` are squeezed from s, which is r then, over the first n bytes of the buffer
+pub record Filled (n : ℕ) (buffer bytes : List ℕ) (s r : Sponge) : Type 0 where
+  pub state : r ≡ afterSqueeze n s
+  pub first : take n (bytes ++ drop n buffer) ≡ squeezed n s
+  pub cut : n ≡ length (take n (bytes ++ drop n buffer))
+  pub long : length (bytes ++ drop n buffer) ≡ length buffer
 
-  pub buffer-state : (r : Sponge) → r ≡ afterSqueeze (length (take n buffer)) s → r ≡ afterSqueeze n s
-  buffer-state r e = e ∙ ap (λ (m : ℕ). afterSqueeze m s) lent
+pub filled : (n : ℕ) {buffer bytes : List ℕ} (s : Sponge) {r : Sponge} → n ≤ length buffer → r ≡ afterSqueeze (length (take n buffer)) s
+    → bytes ≡ squeezed (length (take n buffer)) s → Filled n buffer bytes s r
+filled n {buffer} {bytes} s room e f =
+    record {
+      state = e ∙ ap (λ (m : ℕ). afterSqueeze m s) lent;
+      first = first;
+      cut = sym (ap length first ∙ length-squeezed n s);
+      long = rw (f, lent, length-append (squeezed n s) (drop n buffer), length-squeezed n s) (omega (arith, length-drop n buffer));
+    }
+  where
+    lent : length (take n buffer) ≡ n
+    lent = length-take-le n buffer room
 
-  module _ (e : last ≡ squeezed (length (take n buffer)) s) where
-    pub buffer-bytes : take n (last ++ drop n buffer) ≡ squeezed n s
-    buffer-bytes = rw (e, lent) (take-at (squeezed n s) (drop n buffer) n (length-squeezed n s))
+    first : take n (bytes ++ drop n buffer) ≡ squeezed n s
+    first = rw (f, lent) (take-at (squeezed n s) (drop n buffer) n (length-squeezed n s))
 
-    pub buffer-length : length (last ++ drop n buffer) ≡ length buffer
-    buffer-length =
-        rw (e, lent, length-append (squeezed n s) (drop n buffer), length-squeezed n s) (omega (arith, length-drop n buffer))
+-- k candidates are held there
+filled-many : (size k : ℕ) {buffer bytes : List ℕ} {s r : Sponge} → 0 < size → Filled (size * k) buffer bytes s r
+    → held size (take (size * k) (bytes ++ drop (size * k) buffer)) ≡ k
+filled-many size k h f = ap (λ (n : ℕ). n / size) (sym (f .cut)) ∙ mul-div-right k h
 
 -- ---- the candidates that a sponge gives
 
@@ -76,121 +87,132 @@ values-squeezed range need size bits k left s h =
 values-none : (range : ℕ) (cs : List ℕ) → values range 0 cs ≡ []
 values-none range cs = values-part range 0 cs ∙ part-none range 0 cs
 
--- no more are taken than there are candidates
-pub part-short : (range need later : ℕ) (cs : List ℕ) → length (part range need later cs) ≤ length cs
-unfolding part emit
-part-short range need later [] = zero-le
-part-short range zero later (c ∷ cs) = zero-le
-part-short range (suc need) later (c ∷ cs) = go (λ m. part-short range m later cs) (takesValue range (suc need) (length cs + later) c)
-  where
-    go : ((m : ℕ) → length (part range m later cs) ≤ length cs) → (t : Bool) → length (emit t (reduced range c) (part range (cond t need (suc need)) later cs)) ≤ suc (length cs)
-    go ih true = suc-le-suc (ih need)
-    go ih false = omega (arith, ih (suc need))
-
--- ---- a loop over a stretch whose every candidate is used
-
--- what is taken of the first j candidates is stored
-pub record Putting (range need later : ℕ) (cs old : List ℕ) (at : ℕ) (out : List ℕ) (next j : ℕ) : Type 0 where
-  pub near : j ≤ length cs
-  pub done : Stored (first range need later cs j) old at out next
-  pub short : next ≤ at + j
-
-module _ {range need later at : ℕ} {cs old : List ℕ} where
-  pub putting-none : Putting range need later cs old at old at 0
-  putting-none =
-      record {
-        near = zero-le;
-        done = rw (first-none range need later cs) (stored-none old refl);
-        short = omega arith;
-      }
-
-  module _ {out : List ℕ} {next j : ℕ} (p : Putting range need later cs old at out next j) where
-    pub putting-from : at ≤ next
-    putting-from = omega (arith, p .done .next-is)
-
-    -- candidate j, with `left` after it, where m are still needed
-    pub putting-more : (m : ℕ) {last : List ℕ} {after c left : ℕ} → j < length cs → c ≡ getD cs j 0 → left ≡ length cs - (j + 1) + later → m + (next - at) ≡ need
-        → Stored (part range m left (c ∷ [])) out next last after → Putting range need later cs old at last after (j + 1)
-    putting-more m {last} {after} {c} {left} h e f k s =
-        record {
-          near = omega arith;
-          done = rw (first-more range need later cs j c left m h e f (omega (arith, p .done .next-is))) (stored-append (p .done) s);
-          short = omega (arith, p .short, s .next-is, part-short range m left (c ∷ []));
-        }
-
-    pub putting-all : length cs ≤ j → Stored (part range need later cs) old at out next
-    putting-all h = rw (← first-all range need later cs j h) (p .done)
-
 -- ---- a loop over stretches
 
--- no more is stored than is needed
-pub stored-most : {A : Type 0} {g : List ℕ → List A} → Kept g → (range need later : ℕ) (cs : List ℕ) {old out : List A} {at next : ℕ}
-    → Stored (g (part range need later cs)) old at out next → next ≤ at + need
-stored-most kept range need later cs s = omega (arith, s .next-is, kept .long (part range need later cs), part-most range need later cs)
-
--- what stands in the output before `at`, and what the `left` candidates to come give of the `need` values needed, are together all
-pub record Squeezing {A : Type 0} (g : List ℕ → List A) (size bits range : ℕ) (all old out : List A) (sponge : Sponge) (left need at : ℕ) : Type 0 where
+-- What stands in the output before `at`, and what the `left` candidates to come give of the `need` values needed, are together all. At first
+-- `most` candidates are to come and `total` values are needed.
+pub record Squeezing {A : Type 0} (g : List ℕ → List A) (size bits range : ℕ) (all old : List A) (most total : ℕ) (out : List A) (sponge : Sponge)
+    (buffer : List ℕ) (left need at : ℕ) : Type 0 where
+  pub kept : Kept g
+  pub some : 0 < size
   pub done : List A
   pub stored : Stored done old 0 out at
   pub rest : done ++ g (values range need (candidates size bits (squeezed (size * left) sponge))) ≡ all
   pub enough : need ≤ left
+  pub few : left ≤ most
+  pub still : at + need ≡ total
+  pub within : at ≤ length old
+  pub long : length out ≡ length old
+  pub room : length buffer ≡ 408
 
--- nor than there are candidates
-pub stored-short : {A : Type 0} {g : List ℕ → List A} → Kept g → (range need later : ℕ) (cs : List ℕ) {old out : List A} {at next : ℕ}
-    → Stored (g (part range need later cs)) old at out next → next ≤ at + length cs
-stored-short kept range need later cs s = omega (arith, s .next-is, kept .long (part range need later cs), part-short range need later cs)
-
-module _ {A : Type 0} {g : List ℕ → List A} (kept : Kept g) {size bits range : ℕ} (some : 0 < size) where
-  pub squeezing-none : {old : List A} {sponge : Sponge} {left need still : ℕ} → need ≤ left → still ≡ need
-      → Squeezing g size bits range (g (values range need (candidates size bits (squeezed (size * left) sponge)))) old old sponge left still 0
-  squeezing-none {old} {sponge} {left} h e =
+module _ {A : Type 0} {g : List ℕ → List A} {size bits range : ℕ} where
+  pub squeezing-none : {old : List A} {sponge : Sponge} {buffer : List ℕ} {left need total : ℕ} → Kept g → 0 < size → need ≤ left → need ≡ total → length buffer ≡ 408
+      → Squeezing g size bits range (g (values range total (candidates size bits (squeezed (size * left) sponge)))) old left total old sponge buffer left need 0
+  squeezing-none {old} {sponge} {buffer} {left} kept some h e room =
       record {
+        kept = kept;
+        some = some;
         done = [];
         stored = stored-none old refl;
         rest = ap (λ (m : ℕ). g (values range m (candidates size bits (squeezed (size * left) sponge)))) e;
-        enough = omega arith;
+        enough = h;
+        few = omega arith;
+        still = omega arith;
+        within = zero-le;
+        long = refl;
+        room = room;
       }
 
-  module _ {all old out : List A} {sponge : Sponge} {left need at : ℕ} (d : Squeezing g size bits range all old out sponge left need at) where
-    -- the next k candidates, with `later` after them
-    pub squeezing-more : (k : ℕ) {last : List A} {after : Sponge} {later fewer next : ℕ} → left ≡ k + later → after ≡ afterSqueeze (size * k) sponge
-        → at + need ≡ next + fewer
-        → Stored (g (part range need later (candidates size bits (squeezed (size * k) sponge)))) out at last next
-        → Squeezing g size bits range all old last after later fewer next
-    squeezing-more k {last} {after} {later} {fewer} {next} e f c s =
-        record {
-          done = d .done ++ g new;
-          stored = stored-append (d .stored) s;
-          rest =
-              append-assoc (d .done) (g new) (g (values range fewer (candidates size bits (squeezed (size * later) after))))
-              ∙ ap (λ (l : List A). d .done ++ l) (sym (kept .append new (values range fewer (candidates size bits (squeezed (size * later) after)))))
-              ∙ ap (λ (l : List ℕ). d .done ++ g l) (rw (f, ← still, e) (sym (values-squeezed range need size bits k later sponge some)))
-              ∙ d .rest;
-          enough = omega (arith, still, part-enough range need later cs (omega (arith, squeezed-many size bits k sponge some, d .enough)));
-        }
-      where
-        cs : List ℕ
-        cs = candidates size bits (squeezed (size * k) sponge)
+  module _ {all old out : List A} {most total : ℕ} {sponge : Sponge} {buffer : List ℕ} {left need at : ℕ}
+      (d : Squeezing g size bits range all old most total out sponge buffer left need at) where
+    -- the next k candidates, of which no more are taken than are needed, nor than there are
+    module _ (k m : ℕ) {bytes : List ℕ} {after : Sponge} {last : List A} {next : ℕ} (f : Filled (size * k) buffer bytes sponge after) (e : m ≡ need) (h : k ≤ left)
+        (s : Stored (g (part range m (left - k) (candidates size bits (take (size * k) (bytes ++ drop (size * k) buffer))))) out at last next) where
+      abbrev cs : List ℕ
+      cs = candidates size bits (squeezed (size * k) sponge)
 
-        new : List ℕ
-        new = part range need later cs
+      abbrev new : List ℕ
+      new = part range need (left - k) cs
 
-        still : need - length new ≡ fewer
-        still = omega (arith, s .next-is, kept .long new, part-most range need later cs)
+      taken : Stored (g new) out at last next
+      taken = rw (f .first, e) at s
+
+      next-is : next ≡ at + length new
+      next-is = taken .next-is ∙ ap (λ (n : ℕ). at + n) (d .kept .long new)
+
+      pub squeezing-most : (next ≤ at + need) × (next ≤ at + k)
+      squeezing-most =
+          omega (arith, next-is, part-most range need (left - k) cs, part-short range need (left - k) cs, squeezed-many size bits k sponge (d .some))
+
+      pub squeezing-more : {fewer : ℕ} → at + need ≡ next + fewer → next ≤ length old
+          → Squeezing g size bits range all old most total last after (bytes ++ drop (size * k) buffer) (left - k) fewer next
+      squeezing-more {fewer} c l =
+          record {
+            kept = d .kept;
+            some = d .some;
+            done = d .done ++ g new;
+            stored = stored-append (d .stored) taken;
+            rest =
+                append-assoc (d .done) (g new) (g (values range fewer (candidates size bits (squeezed (size * (left - k)) after))))
+                ∙ ap (λ (l : List A). d .done ++ l) (sym (d .kept .append new (values range fewer (candidates size bits (squeezed (size * (left - k)) after)))))
+                ∙ ap (λ (l : List ℕ). d .done ++ g l) (rw (f .state, ← fewer-is) (sym (values-squeezed range need size bits k (left - k) sponge (d .some))))
+                ∙ ap (λ (n : ℕ). d .done ++ g (values range need (candidates size bits (squeezed (size * n) sponge)))) whole
+                ∙ d .rest;
+            enough =
+                omega (arith, fewer-is, part-enough range need (left - k) cs (omega (arith, squeezed-many size bits k sponge (d .some), d .enough)));
+            few = omega (arith, d .few);
+            still = omega (arith, d .still);
+            within = l;
+            long = stored-length taken ∙ d .long;
+            room = f .long ∙ d .room;
+          }
+        where
+          whole : k + (left - k) ≡ left
+          whole = omega arith
+
+          fewer-is : need - length new ≡ fewer
+          fewer-is = omega (arith, next-is, part-most range need (left - k) cs)
 
     -- the output is full
-    pub squeezing-full : at ≡ length old → out ++ g (values range need (candidates size bits (squeezed (size * left) sponge))) ≡ all
-    squeezing-full e = ap (λ (l : List A). l ++ g (values range need (candidates size bits (squeezed (size * left) sponge)))) whole ∙ d .rest
+    pub squeezing-full : length old ≤ at → out ++ g (values range need (candidates size bits (squeezed (size * left) sponge))) ≡ all
+    squeezing-full h = ap (λ (l : List A). l ++ g (values range need (candidates size bits (squeezed (size * left) sponge)))) whole ∙ d .rest
       where
         whole : out ≡ d .done
-        whole = stored-whole (d .stored) (omega (arith, d .stored .next-is))
+        whole = stored-whole (d .stored) (omega (arith, d .stored .next-is, d .within))
 
     -- and nothing more is needed
-    pub squeezing-all : at ≡ length old → need ≡ 0 → out ≡ all
-    squeezing-all e z =
-        sym (append-nil out)
-        ∙ ap (λ (l : List A). out ++ l) (sym (ap g (ap (λ (m : ℕ). values range m (candidates size bits (squeezed (size * left) sponge))) z ∙ values-none range (candidates size bits (squeezed (size * left) sponge))) ∙ kept .none))
-        ∙ squeezing-full e
+    pub squeezing-all : length old ≤ at → total ≡ length old → out ≡ all
+    squeezing-all h e =
+        sym (append-nil out) ∙ ap (λ (l : List A). out ++ l) (sym (ap g (ap (λ (m : ℕ). values range m cs) none ∙ values-none range cs) ∙ d .kept .none))
+        ∙ squeezing-full h
+      where
+        cs : List ℕ
+        cs = candidates size bits (squeezed (size * left) sponge)
+
+        none : need ≡ 0
+        none = omega (arith, d .still, d .within)
+
+-- what the stretch's reader is asked
+module _ {all : List ℤ} {b bits most total left need at k : ℕ} {old out : List ℤ} {sponge after : Sponge} {buffer bytes : List ℕ} where
+  pub less-asks : Less bits b → Squeezing (map (lessOf b)) 3 bits (2 * b + 1) all old most total out sponge buffer left need at → Filled (3 * k) buffer bytes sponge after
+      → k ≤ left → most < 2 ^ 64 → LessStretch bits b (left - k) (take (3 * k) (bytes ++ drop (3 * k) buffer)) (length out) at
+  less-asks less d f h l =
+      record {
+        less = less;
+        fits = omega (arith, filled-many 3 k (omega arith) f, d .few);
+        within = omega (arith, d .within, d .long);
+      }
+
+pub values-asks : {all : List ℕ} {bits range most total left need at k : ℕ} {old out : List ℕ} {sponge after : Sponge} {buffer bytes : List ℕ} → bits ≤ 32
+    → Squeezing (λ (vs : List ℕ). vs) 4 bits range all old most total out sponge buffer left need at → Filled (4 * k) buffer bytes sponge after
+    → k ≤ left → k ≤ length old - at → most < 2 ^ 64
+    → ValuesStretch bits (left - k) need (take (4 * k) (bytes ++ drop (4 * k) buffer)) (length out) at
+values-asks {k = k} narrow d f h r l =
+    record {
+      narrow = narrow;
+      fits = omega (arith, filled-many 4 k (omega arith) f, d .few);
+      room = omega (arith, filled-many 4 k (omega arith) f, d .within, d .long);
+    }
 
 -- ---- positions with signs
 
@@ -228,63 +250,92 @@ positions-none : (n : ℕ) (ps : List ℕ) (cs : List Drawn) → positions n 0 p
 positions-none n ps cs = positions-part n 0 ps cs ∙ part-positions-none n 0 ps cs
 
 -- what stands in the outputs before `at`, and what the `left` candidates to come give, are together all
-pub record Gathering (n bits : ℕ) (all : List Drawn) (places : List ℕ) (signs : List ℤ) (out : List ℕ) (marks : List ℤ) (sponge : Sponge) (left at : ℕ) : Type 0 where
+pub record Gathering (n bits : ℕ) (all : List Drawn) (places : List ℕ) (signs : List ℤ) (out : List ℕ) (marks : List ℤ) (sponge : Sponge) (buffer : List ℕ) (left at : ℕ) : Type 0 where
   pub done : List Drawn
   pub stored : StoredDrawn done places signs 0 out marks at
   pub rest : done ++ positions n (length places - at) (take at out) (drawnCandidates bits (squeezed (3 * left) sponge)) ≡ all
   pub enough : length places - at ≤ left
-  pub near : at ≤ length places
+  pub few : left ≤ 256
+  pub within : at ≤ length places
+  pub long : length out ≡ length places
+  pub marked : length marks ≡ length signs
+  pub room : length buffer ≡ 408
 
 module _ {n bits : ℕ} where
-  pub gathering-none : {places : List ℕ} {signs : List ℤ} {sponge : Sponge} {left : ℕ} → length places ≤ left
-      → Gathering n bits (positions n (length places) [] (drawnCandidates bits (squeezed (3 * left) sponge))) places signs places signs sponge left 0
-  gathering-none {places} {signs} {sponge} {left} h =
+  pub gathering-none : {places : List ℕ} {signs : List ℤ} {sponge : Sponge} {buffer : List ℕ} → length places ≤ 256 → length buffer ≡ 408
+      → Gathering n bits (placesOf n bits (length places) (squeezed (3 * 256) sponge)) places signs places signs sponge buffer 256 0
+  gathering-none {places} {signs} {sponge} h room =
       record {
         done = [];
         stored = stored-drawn-none places signs refl;
-        rest = ap (λ (m : ℕ). positions n m [] (drawnCandidates bits (squeezed (3 * left) sponge))) (sub-zero (length places));
+        rest = ap (λ (m : ℕ). positions n m [] (drawnCandidates bits (squeezed (3 * 256) sponge))) (sub-zero (length places));
         enough = omega arith;
-        near = zero-le;
+        few = omega arith;
+        within = zero-le;
+        long = refl;
+        marked = refl;
+        room = room;
       }
 
-  module _ {all : List Drawn} {places : List ℕ} {signs : List ℤ} {out : List ℕ} {marks : List ℤ} {sponge : Sponge} {left at : ℕ}
-      (d : Gathering n bits all places signs out marks sponge left at) where
-    -- the next k candidates, with `later` after them
-    pub gathering-more : (k : ℕ) {last : List ℕ} {ends : List ℤ} {after : Sponge} {later next : ℕ} → left ≡ k + later → after ≡ afterSqueeze (3 * k) sponge
-        → StoredDrawn (partPositions n (length out - at) later (take at out) (drawnCandidates bits (squeezed (3 * k) sponge))) out marks at last ends next
-        → Gathering n bits all places signs last ends after later next
-    gathering-more k {last} {ends} {after} {later} {next} e f s =
-        record {
-          done = d .done ++ new;
-          stored = stored-drawn-append (d .stored) s;
-          rest =
-              append-assoc (d .done) new (positions n (length places - next) (take next last) (drawnCandidates bits (squeezed (3 * later) after)))
-              ∙ ap (λ (l : List Drawn). d .done ++ l) (rw (f, still, stored-front (s .places) near, ← long, e) (sym (positions-squeezed n (length out - at) bits k later (take at out) sponge)))
-              ∙ d .rest;
-          enough = omega (arith, still, part-positions-enough n (length out - at) later (take at out) cs (omega (arith, drawn-many bits k sponge, d .enough, long)));
-          near = omega (arith, near, long);
-        }
-      where
-        cs : List Drawn
-        cs = drawnCandidates bits (squeezed (3 * k) sponge)
+  module _ {all : List Drawn} {places : List ℕ} {signs : List ℤ} {out : List ℕ} {marks : List ℤ} {sponge : Sponge} {buffer : List ℕ} {left at : ℕ}
+      (d : Gathering n bits all places signs out marks sponge buffer left at) where
+    module _ (k : ℕ) {bytes : List ℕ} {after : Sponge} (f : Filled (3 * k) buffer bytes sponge after) (h : k ≤ left) where
+      -- what the stretch's reader is asked
+      pub positions-asks : Placing n bits (length places) (length signs)
+          → PositionsStretch n bits (left - k) (take (3 * k) (bytes ++ drop (3 * k) buffer)) (length out) (length marks) at
+      positions-asks p =
+          record {
+            placing = record { power = p .power; fits = p .fits; paired = d .marked ∙ p .paired ∙ sym (d .long) };
+            fits = omega (arith, filled-many 3 k (omega arith) f, d .few);
+            within = omega (arith, d .within, d .long);
+          }
 
-        new : List Drawn
-        new = partPositions n (length out - at) later (take at out) cs
+      -- the next k candidates
+      pub gathering-more : {last : List ℕ} {ends : List ℤ} {next : ℕ}
+          → StoredDrawn (partPositions n (length out - at) (left - k) (take at out) (drawnCandidates bits (take (3 * k) (bytes ++ drop (3 * k) buffer)))) out marks at last ends next
+          → Gathering n bits all places signs last ends after (bytes ++ drop (3 * k) buffer) (left - k) next
+      gathering-more {last} {ends} {next} t =
+          record {
+            done = d .done ++ new;
+            stored = stored-drawn-append (d .stored) s;
+            rest =
+                append-assoc (d .done) new (positions n (length places - next) (take next last) (drawnCandidates bits (squeezed (3 * (left - k)) after)))
+                ∙ ap (λ (l : List Drawn). d .done ++ l) (rw (f .state, still, stored-front (s .places) near) (sym (positions-squeezed n (length out - at) bits k (left - k) (take at out) sponge)))
+                ∙ joined;
+            enough = omega (arith, still, part-positions-enough n (length out - at) (left - k) (take at out) cs (omega (arith, drawn-many bits k sponge, d .enough, d .long)));
+            few = omega (arith, d .few);
+            within = omega (arith, near, d .long);
+            long = stored-length (s .places) ∙ d .long;
+            marked = stored-length (s .marks) ∙ d .marked;
+            room = f .long ∙ d .room;
+          }
+        where
+          cs : List Drawn
+          cs = drawnCandidates bits (squeezed (3 * k) sponge)
 
-        long : length out ≡ length places
-        long = stored-length (d .stored .places)
+          new : List Drawn
+          new = partPositions n (length out - at) (left - k) (take at out) cs
 
-        most : length new ≤ length out - at
-        most = part-positions-most n (length out - at) later (take at out) cs
+          s : StoredDrawn new out marks at last ends next
+          s = rw (f .first) at t
 
-        next-is : next ≡ at + length new
-        next-is = s .places .next-is ∙ ap (λ (m : ℕ). at + m) (length-map new (λ (t : Drawn). t .position))
+          whole : k + (left - k) ≡ left
+          whole = omega arith
 
-        near : next ≤ length out
-        near = omega (arith, next-is, most, d .near, long)
+          joined : d .done ++ positions n (length out - at) (take at out) (drawnCandidates bits (squeezed (3 * (k + (left - k))) sponge)) ≡ all
+          joined = rw (d .long, whole) (d .rest)
 
-        still : length places - next ≡ length out - at - length new
-        still = omega (arith, next-is, most, long)
+          most : length new ≤ length out - at
+          most = part-positions-most n (length out - at) (left - k) (take at out) cs
+
+          next-is : next ≡ at + length new
+          next-is = s .places .next-is ∙ ap (λ (m : ℕ). at + m) (length-map new (λ (t : Drawn). t .position))
+
+          near : next ≤ length out
+          near = omega (arith, next-is, most, d .within, d .long)
+
+          still : length places - next ≡ length out - at - length new
+          still = omega (arith, next-is, most, d .long)
 
     -- the outputs are full
     pub gathering-all : length places ≤ at → length signs ≡ length places → AreDrawn all out marks
@@ -295,7 +346,7 @@ module _ {n bits : ℕ} where
         }
       where
         long : {B : Type 0} (f : Drawn → B) → length (map f (d .done)) ≡ length places
-        long f = length-map (d .done) f ∙ omega (arith, d .stored .places .next-is, length-map (d .done) (λ (t : Drawn). t .position), d .near)
+        long f = length-map (d .done) f ∙ omega (arith, d .stored .places .next-is, length-map (d .done) (λ (t : Drawn). t .position), d .within)
 
         nothing : length places - at ≡ 0
         nothing = omega arith

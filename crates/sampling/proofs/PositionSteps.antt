@@ -1,17 +1,18 @@
 -- The steps of taking positions: the sign of a candidate, a search among positions, the next free one, what becomes of one candidate,
 -- one candidate more of a stretch, and where the loop ends.
 -- Assumes nothing.
-use mathlib.Core.Path.{_≡_, refl, sym, ap, _∙_}
+use mathlib.Core.Path.{_≡_, refl, sym, ap, ap₂, _∙_}
 use mathlib.Core.Logic.{⊎-elim}
 use mathlib.Core.Bool.{true, false}
 use mathlib.Core.List.{List, [], _∷_, _++_, append-nil}
-use Prim.Native.Nat.{ℕ, zero, suc, _+_, _-_, _*_, _/_, _%_, _≤_, _<_, zero-le}
-use native.Mathlib.Nat.{zero-add, le-of-eq, mod-self, mod-eq-of-lt}
+use Prim.Native.Nat.{ℕ, zero, suc, _+_, _-_, _*_, _/_, _%_, _^_, _≤_, _<_}
+use native.Mathlib.Nat.{zero-add, le-of-eq, mod-self, mod-lt, mod-eq-of-lt}
 use native.Mathlib.Numerals.{add-one}
 use native.Mathlib.Omega.{arith}
 use lib.IntN.{ℤ, pos, negsuc}
 use lib.ListN.{length, getD, take, drop, take-append-drop, length-drop, length-map, drop-of-length-le}
 use lib.Seq.{take-suc, take-all, drop-cons}
+use lib.Pow.{pow-pos, pow-mono}
 use borrow.Author.Tests.{eq-eqb, ne-eqb}
 use Rattle.whole.specs.Int.{lt-or-le, less-one}
 use Rattle.whole.specs.Below.{Below}
@@ -19,10 +20,11 @@ use Rattle.whole.specs.Parts.{part-length, part-at}
 use Rattle.packing.specs.Digits.{value}
 use Rattle.packing.specs.Laws.{value-drop}
 use Rattle.sampling.specs.Candidates.{held, piece}
-use Rattle.sampling.specs.Positions.{Drawn, isIn, free, signOf, positionsOf}
-use Rattle.sampling.specs.Asks.{Upward}
+use Rattle.sampling.specs.Positions.{Drawn, isIn, free, signOf, positionsOf, drawnCandidates}
+use Rattle.sampling.specs.Promises.{Upward}
+use Rattle.sampling.specs.FreeLaws.{free-inside}
 use Rattle.sampling.specs.Stored.{StoredDrawn, stored-length, stored-front, stored-drawn-none, stored-drawn-append}
-use Rattle.sampling.specs.PositionsLaws.{partPositions, placed, part-positions-none, part-positions-fresh, part-positions-repeated, part-positions-moved, part-positions-most, part-positions-append}
+use Rattle.sampling.specs.PositionsLaws.{drawnAs, partPositions, placed, part-positions-none, part-positions-fresh, part-positions-repeated, part-positions-moved, part-positions-most, part-positions-append, drawn-length, drawn-at}
 use Rattle.sampling.proofs.CandidateSteps.{held-room}
 
 -- ---- the sign
@@ -82,6 +84,10 @@ free-on n (suc steps) p ps h e = rw (e, less-one steps)
 pub free-none : (n p : ℕ) (ps : List ℕ) → free n 0 p ps ≡ p
 unfolding free
 free-none n p ps = refl
+
+-- it fits two bytes
+pub free-fits : {r : ℕ} (n p : ℕ) (ps : List ℕ) → r ≡ free n n p ps → p < n → n ≤ 65536 → r < 2 ^ 16
+free-fits n p ps e h l = omega (arith, free-inside n n p ps h)
 
 -- ---- one candidate, with `left` after it
 
@@ -160,52 +166,84 @@ module _ (n need later : ℕ) (ps : List ℕ) (cs : List Drawn) where
 
 -- ---- a loop over the candidates of a stretch
 
--- what is taken of the first j candidates is stored
-pub record Drawing (n later : ℕ) (cs : List Drawn) (positions : List ℕ) (signs : List ℤ) (at : ℕ) (out : List ℕ) (marks : List ℤ) (next j : ℕ) : Type 0 where
-  pub near : j ≤ length cs
-  pub done : StoredDrawn (firstPositions n (length positions - at) later (take at positions) cs j) positions signs at out marks next
+-- a candidate of so many bits is a position below n, which fits two bytes
+pub candidate-inside : {c n : ℕ} (p bits : ℕ) → c ≡ p % 2 ^ bits → n ≡ 2 ^ bits → c < n
+candidate-inside p bits e f = omega (arith, mod-lt p (pow-pos bits))
 
-module _ {n later at : ℕ} {cs : List Drawn} {positions : List ℕ} {signs : List ℤ} where
-  pub drawing-none : Drawing n later cs positions signs at positions signs at 0
-  drawing-none =
-      record {
-        near = zero-le;
-        done = rw (first-positions-none n (length positions - at) later (take at positions) cs) (stored-drawn-none positions signs refl);
-      }
+pub bits-few : {n : ℕ} (bits : ℕ) → n ≡ 2 ^ bits → bits ≤ 16 → n ≤ 65536
+bits-few bits e h =
+    let few : 2 ^ bits ≤ 2 ^ 16 = pow-mono h in
+    omega arith
 
-  module _ (within : at ≤ length positions) {out : List ℕ} {marks : List ℤ} {next j : ℕ} (t : Drawing n later cs positions signs at out marks next j) where
-    abbrev new : List Drawn
+-- what is taken of the first j candidates of a stretch is stored, where as many are needed as there are places from `at` on
+pub record Drawing (n bits later : ℕ) (stretch positions : List ℕ) (signs : List ℤ) (at : ℕ) (out : List ℕ) (marks : List ℤ) (next j : ℕ) : Type 0 where
+  pub done : StoredDrawn (firstPositions n (length positions - at) later (take at positions) (drawnCandidates bits stretch) j) positions signs at out marks next
+  pub long : length out ≡ length positions
+  pub marked : length marks ≡ length signs
+  pub within : next ≤ length positions
+
+-- what is stored, and its counts
+drawing : (n bits later : ℕ) (stretch : List ℕ) {positions : List ℕ} {signs : List ℤ} {at : ℕ} {out : List ℕ} {marks : List ℤ} {next j : ℕ} → at ≤ length positions
+    → StoredDrawn (firstPositions n (length positions - at) later (take at positions) (drawnCandidates bits stretch) j) positions signs at out marks next
+    → Drawing n bits later stretch positions signs at out marks next j
+drawing n bits later stretch {positions} {signs} {at} {out} {marks} {next} {j} h s =
+    record {
+      done = s;
+      long = stored-length (s .places);
+      marked = stored-length (s .marks);
+      within = omega (arith, s .places .next-is, length-map new (λ (d : Drawn). d .position), first-positions-most n (length positions - at) later (take at positions) cs j);
+    }
+  where
+    cs : List Drawn
+    cs = drawnCandidates bits stretch
+
+    new : List Drawn
     new = firstPositions n (length positions - at) later (take at positions) cs j
 
-    pub drawing-long : length out ≡ length positions
-    drawing-long = stored-length (t .done .places)
+module _ {n bits later at : ℕ} {stretch positions : List ℕ} {signs : List ℤ} (from : at ≤ length positions) where
+  pub drawing-none : Drawing n bits later stretch positions signs at positions signs at 0
+  drawing-none =
+      drawing n bits later stretch from
+      (rw (first-positions-none n (length positions - at) later (take at positions) (drawnCandidates bits stretch)) (stored-drawn-none positions signs refl))
 
-    pub drawing-marks : length marks ≡ length signs
-    drawing-marks = stored-length (t .done .marks)
-
-    -- what is still needed
-    rest : next ≡ at + length new
-    rest = t .done .places .next-is ∙ ap (λ (k : ℕ). at + k) (length-map new (λ (d : Drawn). d .position))
-
-    pub drawing-near : next ≤ length positions
-    drawing-near = omega (arith, rest, first-positions-most n (length positions - at) later (take at positions) cs j)
-
+  module _ {out : List ℕ} {marks : List ℤ} {next j : ℕ} (t : Drawing n bits later stretch positions signs at out marks next j) where
     -- candidate j, with `left` after it, where `need` are still needed
-    pub drawing-more : {last : List ℕ} {ends : List ℤ} {after left : ℕ} (need : ℕ) (c : Drawn) → j < length cs → c ≡ getD cs j c
-        → left ≡ length cs - (j + 1) + later → need + next ≡ length positions
-        → StoredDrawn (partPositions n need left (take next out) (c ∷ [])) out marks next last ends after
-        → Drawing n later cs positions signs at last ends after (j + 1)
-    drawing-more {last} {ends} {after} {left} need c h e f k s =
-        record {
-          near = omega arith;
-          done =
-              rw (first-positions-more n (length positions - at) later (take at positions) cs j left need c (take next out) h e f (omega (arith, rest)) (stored-front (t .done .places) drawing-near))
-              (stored-drawn-append (t .done) s);
-        }
+    pub drawing-more : {last : List ℕ} {ends : List ℤ} {after : ℕ} (left need p : ℕ) (s : ℤ)
+        → StoredDrawn (partPositions n need left (take next out) (drawnAs p s ∷ [])) out marks next last ends after
+        → p ≡ piece 3 stretch j % 2 ^ bits → s ≡ signOf (piece 3 stretch j / 65536) → j < held 3 stretch → left ≡ held 3 stretch - (j + 1) + later
+        → need + next ≡ length positions → Drawing n bits later stretch positions signs at last ends after (j + 1)
+    drawing-more left need p s stored e f h l k =
+        drawing n bits later stretch from
+        (rw (first-positions-more n (length positions - at) later (take at positions) cs j left need (drawnAs p s) (take next out) (rw many h)
+        (ap₂ drawnAs e f ∙ sym (drawn-at bits stretch j (drawnAs p s) h)) (rw many l) (omega (arith, taken)) (stored-front (t .done .places) (t .within)))
+        (stored-drawn-append (t .done) stored))
+      where
+        cs : List Drawn
+        cs = drawnCandidates bits stretch
 
-    pub drawing-all : length cs ≤ j → StoredDrawn (partPositions n (length positions - at) later (take at positions) cs) positions signs at out marks next
-    drawing-all h = rw (← first-positions-all n (length positions - at) later (take at positions) cs j h) (t .done)
+        new : List Drawn
+        new = firstPositions n (length positions - at) later (take at positions) cs j
 
-    pub drawing-full : length positions ≤ next
-        → StoredDrawn (partPositions n (length positions - at) later (take at positions) cs) positions signs at out marks next
-    drawing-full h = rw (← first-positions-full n (length positions - at) later (take at positions) cs j (omega (arith, rest))) (t .done)
+        many : length cs ≡ held 3 stretch
+        many = drawn-length bits stretch
+
+        taken : next ≡ at + length new
+        taken = t .done .places .next-is ∙ ap (λ (k : ℕ). at + k) (length-map new (λ (d : Drawn). d .position))
+
+    pub drawing-all : held 3 stretch ≤ j
+        → StoredDrawn (partPositions n (length positions - at) later (take at positions) (drawnCandidates bits stretch)) positions signs at out marks next
+    drawing-all h =
+        rw (← first-positions-all n (length positions - at) later (take at positions) (drawnCandidates bits stretch) j (rw (drawn-length bits stretch) h)) (t .done)
+
+    pub drawing-full : length positions ≡ next
+        → StoredDrawn (partPositions n (length positions - at) later (take at positions) (drawnCandidates bits stretch)) positions signs at out marks next
+    drawing-full h =
+        rw (← first-positions-full n (length positions - at) later (take at positions) cs j
+        (omega (arith, t .done .places .next-is, length-map new (λ (d : Drawn). d .position))))
+        (t .done)
+      where
+        cs : List Drawn
+        cs = drawnCandidates bits stretch
+
+        new : List Drawn
+        new = firstPositions n (length positions - at) later (take at positions) cs j

@@ -2,14 +2,17 @@
 -- Assumes nothing.
 use mathlib.Core.Path.{_≡_, refl, sym, ap, _∙_}
 use mathlib.Core.List.{List, [], _∷_, _++_, map, map-append, append-nil}
-use Prim.Native.Nat.{ℕ, zero, suc, _+_, _-_, _≤_, _<_, zero-le}
-use native.Mathlib.Nat.{zero-add}
+use Prim.Native.Nat.{ℕ, zero, suc, _+_, _-_, _*_, _%_, _^_, _≤_, _<_}
+use native.Mathlib.Nat.{zero-add, mod-lt}
 use native.Mathlib.Numerals.{add-one}
 use native.Mathlib.Omega.{arith}
-use lib.ListN.{length, getD, take, drop, take-append-drop, length-drop, length-map}
+use lib.ListN.{length, getD, take, drop, take-append-drop, length-take, length-drop, length-map}
 use lib.Seq.{take-suc, take-all}
+use lib.Pow.{pow-pos}
+use Rattle.sampling.specs.Candidates.{held, piece, candidates}
+use Rattle.sampling.specs.CandidatesLaws.{candidates-length, candidates-at}
 use Rattle.sampling.specs.Stored.{Stored, stored-none, stored-append, stored-length}
-use Rattle.sampling.specs.ValuesLaws.{part, part-none, part-most, part-in, part-skip, part-last, part-append}
+use Rattle.sampling.specs.ValuesLaws.{part, lessOf, part-none, part-most, part-short, part-in, part-skip, part-last, part-append}
 
 -- ---- one candidate, with `left` after it
 
@@ -42,6 +45,10 @@ module _ (range need later : ℕ) (cs : List ℕ) where
   first-most : (j : ℕ) → length (first j) ≤ need
   unfolding first
   first-most j = part-most range need (length cs - j + later) (take j cs)
+
+  first-short : (j : ℕ) → length (first j) ≤ j
+  unfolding first
+  first-short j = omega (arith, part-short range need (length cs - j + later) (take j cs), length-take j cs)
 
   -- candidate j after them, with `left` after it, where m are still needed
   pub first-more : (j c left m : ℕ) → j < length cs → c ≡ getD cs j 0 → left ≡ length cs - (j + 1) + later → m + length (first j) ≡ need
@@ -91,46 +98,72 @@ kept-values = record { none = refl; append = λ xs ys. refl; long = λ xs. refl 
 pub kept-map : {A : Type 0} (f : ℕ → A) → Kept (map f)
 kept-map f = record { none = refl; append = λ xs ys. map-append f xs ys; long = λ xs. length-map xs f }
 
--- what is taken of the first j candidates is stored
-pub record Taking {A : Type 0} (g : List ℕ → List A) (range later : ℕ) (cs : List ℕ) (old : List A) (at : ℕ) (out : List A) (next j : ℕ) : Type 0 where
-  pub near : j ≤ length cs
-  pub done : Stored (g (first range (length old - at) later cs j)) old at out next
+pub kept-less : (b : ℕ) → Kept (map (lessOf b))
+kept-less b = kept-map (lessOf b)
 
-module _ {A : Type 0} {g : List ℕ → List A} (kept : Kept g) {range later at : ℕ} {cs : List ℕ} {old : List A} where
-  pub taking-none : Taking g range later cs old at old at 0
-  taking-none =
-      record {
-        near = zero-le;
-        done = rw (first-none range (length old - at) later cs, kept .none) (stored-none old refl);
-      }
+-- a candidate of so many bits, where they count to 2(2b + 1) at most
+pub candidate-once : {c : ℕ} (b p bits : ℕ) → c ≡ p % 2 ^ bits → 2 ^ bits ≤ 2 * (2 * b + 1) → c < 2 * (2 * b + 1)
+candidate-once b p bits e h = omega (arith, mod-lt p (pow-pos bits))
 
-  module _ (within : at ≤ length old) {out : List A} {next j : ℕ} (t : Taking g range later cs old at out next j) where
-    pub taking-long : length out ≡ length old
-    taking-long = stored-length (t .done)
+-- what is taken of the first j candidates of a stretch is stored, where `need` values are needed of them and of the `later` ones
+pub record Taking {A : Type 0} (g : List ℕ → List A) (range need later size bits : ℕ) (stretch : List ℕ) (old : List A) (at : ℕ) (out : List A) (next j : ℕ) : Type 0 where
+  pub kept : Kept g
+  pub done : Stored (g (first range need later (candidates size bits stretch) j)) old at out next
+  pub long : length out ≡ length old
+  pub from : at ≤ next
+  pub most : next ≤ at + need
+  pub short : next ≤ at + j
 
-    -- what is still needed
-    rest : next ≡ at + length (first range (length old - at) later cs j)
-    rest = t .done .next-is ∙ ap (λ (k : ℕ). at + k) (kept .long (first range (length old - at) later cs j))
+-- what is stored, and its counts
+taking : {A : Type 0} {g : List ℕ → List A} → Kept g → (range need later size bits : ℕ) (stretch : List ℕ) {old : List A} {at : ℕ} {out : List A} {next j : ℕ}
+    → Stored (g (first range need later (candidates size bits stretch) j)) old at out next → Taking g range need later size bits stretch old at out next j
+taking kept range need later size bits stretch {j = j} s =
+    record {
+      kept = kept;
+      done = s;
+      long = stored-length s;
+      from = omega (arith, s .next-is);
+      most = omega (arith, s .next-is, kept .long (first range need later cs j), first-most range need later cs j);
+      short = omega (arith, s .next-is, kept .long (first range need later cs j), first-short range need later cs j);
+    }
+  where
+    cs : List ℕ
+    cs = candidates size bits stretch
 
-    pub taking-near : next ≤ length old
-    taking-near = omega (arith, rest, first-most range (length old - at) later cs j)
+module _ {A : Type 0} {g : List ℕ → List A} {range need later size bits at : ℕ} {stretch : List ℕ} {old : List A} where
+  pub taking-none : Kept g → Taking g range need later size bits stretch old at old at 0
+  taking-none kept =
+      taking kept range need later size bits stretch (rw (first-none range need later (candidates size bits stretch), kept .none) (stored-none old refl))
 
-    -- candidate j, with `left` after it, where `need` are still needed
-    pub taking-more : {last : List A} {after c left : ℕ} (need : ℕ) → j < length cs → c ≡ getD cs j 0 → left ≡ length cs - (j + 1) + later
-        → need + next ≡ length old → Stored (g (part range need left (c ∷ []))) out next last after → Taking g range later cs old at last after (j + 1)
-    taking-more {last} {after} {c} {left} need h e f k s =
-        record {
-          near = omega arith;
-          done =
-              rw (
-                first-more range (length old - at) later cs j c left need h e f (omega (arith, rest)),
-                kept .append (first range (length old - at) later cs j) (part range need left (c ∷ [])),
-              )
-              (stored-append (t .done) s);
-        }
+  module _ {out : List A} {next j : ℕ} (t : Taking g range need later size bits stretch old at out next j) where
+    -- candidate j, with `left` after it, where m are still needed
+    pub taking-more : {last : List A} {after : ℕ} (c left m : ℕ) → Stored (g (part range m left (c ∷ []))) out next last after
+        → c ≡ piece size stretch j % 2 ^ bits → j < held size stretch → left ≡ held size stretch - (j + 1) + later → m + next ≡ at + need
+        → Taking g range need later size bits stretch old at last after (j + 1)
+    taking-more c left m s e h f k =
+        taking (t .kept) range need later size bits stretch
+        (rw (
+          first-more range need later cs j c left m (rw many h) (e ∙ sym (candidates-at size bits stretch j h)) (rw many f) (omega (arith, taken)),
+          t .kept .append (first range need later cs j) (part range m left (c ∷ [])),
+        )
+        (stored-append (t .done) s))
+      where
+        cs : List ℕ
+        cs = candidates size bits stretch
 
-    pub taking-all : length cs ≤ j → Stored (g (part range (length old - at) later cs)) old at out next
-    taking-all h = rw (← first-all range (length old - at) later cs j h) (t .done)
+        many : length cs ≡ held size stretch
+        many = candidates-length size bits stretch
 
-    pub taking-full : length old ≤ next → Stored (g (part range (length old - at) later cs)) old at out next
-    taking-full h = rw (← first-full range (length old - at) later cs j (omega (arith, rest))) (t .done)
+        taken : next ≡ at + length (first range need later cs j)
+        taken = t .done .next-is ∙ ap (λ (k : ℕ). at + k) (t .kept .long (first range need later cs j))
+
+    pub taking-all : held size stretch ≤ j → Stored (g (part range need later (candidates size bits stretch))) old at out next
+    taking-all h =
+        rw (← first-all range need later (candidates size bits stretch) j (rw (candidates-length size bits stretch) h)) (t .done)
+
+    pub taking-full : at + need ≤ next → Stored (g (part range need later (candidates size bits stretch))) old at out next
+    taking-full h =
+        rw (← first-full range need later cs j (omega (arith, t .done .next-is, t .kept .long (first range need later cs j)))) (t .done)
+      where
+        cs : List ℕ
+        cs = candidates size bits stretch

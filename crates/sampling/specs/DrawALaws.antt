@@ -26,7 +26,9 @@ use Rattle.sampling.specs.Candidates.{candidates}
 use Rattle.sampling.specs.Values.{values}
 use Rattle.sampling.specs.Streams.{allA, aOf}
 use Rattle.sampling.specs.SpongeLaws.{stream-squeezed}
-use Rattle.sampling.specs.DrawA.{valuesLeft, ValidA, StartedA, NextA, AfterA}
+use Rattle.sampling.specs.DrawA.{valuesLeft, ValidA}
+use Rattle.sampling.specs.Asks.{NextA}
+use Rattle.sampling.specs.Promises.{StartedA, AfterA}
 use Rattle.sampling.specs.StreamsLaws.{drawn-below}
 
 -- ---- counts
@@ -39,14 +41,14 @@ few-candidates s g = omega (arith, row-few g)
 
 -- ---- the start
 
-pub started-a : (s : Numbers) → Good s → (seedA : List ℕ) (sponge : Sponge) → Below 256 seedA → sponge ≡ absorbed (fresh (s .digit) 1) seedA
+pub started-a : {s : Numbers} {seedA : List ℕ} {s₀ sponge : Sponge} → Good s → Below 256 seedA → s₀ ≡ fresh (s .digit) 1 → sponge ≡ absorbed s₀ seedA
     → StartedA s seedA (record { sponge = sponge; left = 4 * (s .k * s .n); need = s .k * s .n })
 unfolding valuesLeft allA
-started-a s g seedA sponge b e =
+started-a {s} {seedA} g b f e =
     record {
       all =
           ap (λ (l : List ℕ). values (s .q) (s .k * s .n) (candidates 4 (s .«t_bits») l))
-          (ap (squeezed (4 * (4 * (s .k * s .n)))) e ∙ stream-squeezed (s .digit) 1 seedA (4 * (4 * (s .k * s .n))) (g .digit-fits) (omega arith) b);
+          (ap (squeezed (4 * (4 * (s .k * s .n)))) (rw f at e) ∙ stream-squeezed (s .digit) 1 seedA (4 * (4 * (s .k * s .n))) (g .digit-fits) (omega arith) b);
       valid = record { enough = omega arith };
       need-is = refl;
     }

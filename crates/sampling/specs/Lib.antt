@@ -3,11 +3,10 @@ pub mod Values
 pub mod Positions
 pub mod Streams
 pub mod Lent
-pub mod Asks
-pub mod Stored
-pub mod Answers
-pub mod DrawnAsks
 pub mod DrawA
+pub mod Asks
+pub mod Promises
+pub mod Stored
 pub mod CandidatesLaws
 pub mod ValuesLaws
 pub mod FreeLaws

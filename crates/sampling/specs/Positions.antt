@@ -54,13 +54,22 @@ unfoldable pub drawnCandidates : ℕ → List ℕ → List Drawn
 drawnCandidates bits stream =
     table (held 3 stream) (λ j. record { position = piece 3 stream j % 2 ^ bits; sign = signOf (piece 3 stream j / 65536) })
 
--- ---- the polynomial that positions with signs stand for
+-- the positions with signs of a stream's candidates
+abbrev pub placesOf : ℕ → ℕ → ℕ → List ℕ → List Drawn
+placesOf n bits need stream = positions n need [] (drawnCandidates bits stream)
+
+-- ---- as two lists, and as the polynomial that they stand for
 
 abbrev pub positionsOf : List Drawn → List ℕ
 positionsOf c = map (λ (t : Drawn). t .position) c
 
 abbrev pub signsOf : List Drawn → List ℤ
 signsOf c = map (λ (t : Drawn). t .sign) c
+
+-- the two lists are what was drawn
+pub record AreDrawn (drawn : List Drawn) (places : List ℕ) (signs : List ℤ) : Type 0 where
+  pub places-are : places ≡ positionsOf drawn
+  pub signs-are : signs ≡ signsOf drawn
 
 abbrev pub polynomialOf : List Drawn → Poly
 polynomialOf c = sparse (positionsOf c) (signsOf c)

@@ -16,7 +16,8 @@ use Rattle.sets.specs.declared.Numbers.{Numbers}
 use Rattle.sets.specs.Good.{Good}
 use Rattle.sets.specs.GoodLaws.{q-some}
 use Rattle.sampling.specs.declared.drawn.DrawA.{DrawA}
-use Rattle.sampling.specs.DrawA.{valuesLeft, AfterA}
+use Rattle.sampling.specs.DrawA.{valuesLeft}
+use Rattle.sampling.specs.Promises.{AfterA}
 use Rattle.sampling.specs.DrawALaws.{left-below}
 
 pub record Residues (set : Numbers) (xs : List ℕ) : Type 0 where

@@ -1,5 +1,6 @@
 -- The streams in the sponge: what is squeezed after the mark and the inputs were absorbed is the stream.
 --     stream-squeezed     n bytes squeezed from the fresh state of stream j that has absorbed the inputs
+--     two-pieces          a message in two pieces
 --     two-squeezed        bytes squeezed after two inputs were absorbed one after another
 --     challenge-bytes     H: the high parts' bytes, G of the message and g, absorbed one after another
 --     challenge-squeezed  the same where the bytes are those of the high parts
@@ -18,6 +19,7 @@ use Rattle.shake.specs.Pieces.{absorbed-absorbed}
 use Rattle.shake.specs.Whole.{shake}
 use Rattle.sets.specs.declared.Numbers.{Numbers}
 use Rattle.sets.specs.Good.{Good}
+use Rattle.sets.specs.Limits.{seedBytes}
 use Rattle.sets.specs.Marks.{streamMark, fresh}
 use Rattle.sampling.specs.Streams.{twoBytes, challenge}
 
@@ -36,6 +38,10 @@ stream-squeezed digit j inputs n h l b =
     ap (squeezed n) (absorbed-absorbed blank (streamMark digit j) inputs)
     ∙ shake (streamMark digit j ++ inputs) n (below-append 256 (streamMark digit j) inputs (mark-below digit j h l) b)
 
+-- the state after two pieces is the state after the two joined
+pub two-pieces : (s : Sponge) (a b : List ℕ) {s₁ s₂ : Sponge} → s₁ ≡ absorbed s a → s₂ ≡ absorbed s₁ b → s₂ ≡ absorbed s (a ++ b)
+two-pieces s a b first second = second ∙ ap (λ (t : Sponge). absorbed t b) first ∙ absorbed-absorbed s a b
+
 -- two more inputs, one after another, and what is squeezed then
 pub two-squeezed : (s : Sponge) (a b : List ℕ) {s₁ s₂ : Sponge} {n m : ℕ} {out : List ℕ}
     → s₁ ≡ absorbed s a → s₂ ≡ absorbed s₁ b → out ≡ squeezed n s₂ → n ≡ m → out ≡ squeezed m (absorbed (absorbed s a) b)
@@ -53,13 +59,13 @@ three-squeezed digit j a b c n h l x y z =
     ∙ stream-squeezed digit j (a ++ b ++ c) n h l (below-append 256 (a ++ b) c (below-append 256 a b x y) z)
 
 pub challenge-bytes : (digit : ℕ) (bytes digest g : List ℕ) → digit < 16 → Below 256 bytes → Below 256 digest → Below 256 g
-    → squeezed 32 (absorbed (absorbed (absorbed (fresh digit 6) bytes) digest) g) ≡ shake256 (streamMark digit 6 ++ (bytes ++ digest ++ g)) 32
-challenge-bytes digit bytes digest g h = three-squeezed digit 6 bytes digest g 32 h (omega arith)
+    → squeezed seedBytes (absorbed (absorbed (absorbed (fresh digit 6) bytes) digest) g) ≡ shake256 (streamMark digit 6 ++ (bytes ++ digest ++ g)) seedBytes
+challenge-bytes digit bytes digest g h = three-squeezed digit 6 bytes digest g seedBytes h (omega arith)
 
 pub challenge-squeezed : (s : Numbers) → Good s → (highs : List ℤ) (bytes digest g : List ℕ) → bytes ≡ map (twos 8) highs
     → Below 256 bytes → Below 256 digest → Below 256 g
-    → squeezed 32 (absorbed (absorbed (absorbed (fresh (s .digit) 6) bytes) digest) g) ≡ challenge s highs digest g
+    → squeezed seedBytes (absorbed (absorbed (absorbed (fresh (s .digit) 6) bytes) digest) g) ≡ challenge s highs digest g
 unfolding challenge
 challenge-squeezed s good highs bytes digest g e x y z =
     challenge-bytes (s .digit) bytes digest g (good .digit-fits) x y z
-    ∙ ap (λ (l : List ℕ). shake256 (streamMark (s .digit) 6 ++ (l ++ digest ++ g)) 32) e
+    ∙ ap (λ (l : List ℕ). shake256 (streamMark (s .digit) 6 ++ (l ++ digest ++ g)) seedBytes) e

@@ -1,6 +1,7 @@
 -- Laws of the candidate rule for values. `part` is what is taken of one stretch of the candidates, where `later` ones follow it.
 --     part-in, part-skip, part-last   what becomes of one candidate
---     part-most, part-enough          no more than are needed; and as many as are not left to the candidates that follow
+--     part-most, part-short           no more than are needed, nor than there are candidates
+--     part-enough                     as many as are not left to the candidates that follow
 --     part-below                      each is below the range
 --     part-append                     a stretch in two parts
 --     values-part                     the values of all candidates are the part with none after it
@@ -68,6 +69,17 @@ part-most range (suc need) later (c ∷ cs) = go (λ m. part-most range m later 
     go : ((m : ℕ) → length (part range m later cs) ≤ m) → (t : Bool) → length (emit t (reduced range c) (part range (cond t need (suc need)) later cs)) ≤ suc need
     go ih true = suc-le-suc (ih need)
     go ih false = ih (suc need)
+
+-- no more than there are candidates
+pub part-short : (range need later : ℕ) (cs : List ℕ) → length (part range need later cs) ≤ length cs
+unfolding part emit
+part-short range need later [] = zero-le
+part-short range zero later (c ∷ cs) = zero-le
+part-short range (suc need) later (c ∷ cs) = go (λ m. part-short range m later cs) (takesValue range (suc need) (length cs + later) c)
+  where
+    go : ((m : ℕ) → length (part range m later cs) ≤ length cs) → (t : Bool) → length (emit t (reduced range c) (part range (cond t need (suc need)) later cs)) ≤ suc (length cs)
+    go ih true = suc-le-suc (ih need)
+    go ih false = omega (arith, ih (suc need))
 
 pub part-enough : (range need later : ℕ) (cs : List ℕ) → need ≤ length cs + later → need ≤ length (part range need later cs) + later
 unfolding part emit

@@ -1,8 +1,7 @@
 // What is drawn from streams 1, 2 and 7, a stretch at a time, with no stream held whole.
-use crate::candidate;
 use crate::less_stretch;
 use crate::positions_stretch;
-use crate::take_value;
+use crate::values_stretch;
 use sets::Numbers;
 use shake::Sponge;
 ghost use mathlib.Core.Path.{_≡_};
@@ -14,11 +13,11 @@ ghost use Rattle.sets.specs.Good.{Good};
 ghost use Rattle.sets.specs.Marks.{fresh};
 ghost use Rattle.sampling.specs.Candidates.{candidates};
 ghost use Rattle.sampling.specs.Values.{values};
-ghost use Rattle.sampling.specs.ValuesLaws.{part, lessOf};
-ghost use Rattle.sampling.specs.Stored.{Stored};
+ghost use Rattle.sampling.specs.ValuesLaws.{lessOf};
 ghost use Rattle.sampling.specs.Streams.{twoBytes, yOf, encOf};
-ghost use Rattle.sampling.specs.DrawnAsks.{DrawY, LessDrawn, Needed, DrawEnc, PlacesDrawn, AreDrawn, placesOf};
-ghost use Rattle.sampling.specs.DrawA.{StartedA, NextA, AfterA};
+ghost use Rattle.sampling.specs.Positions.{placesOf, AreDrawn};
+ghost use Rattle.sampling.specs.Asks.{DrawY, Less, DrawEnc, PlacesDrawn, NextA};
+ghost use Rattle.sampling.specs.Promises.{StartedA, AfterA};
 
 // Candidates of the next stretch, at most `most`: `left` of them remain.
 fn stretch_of(left: usize, most: usize) -> usize
@@ -31,17 +30,17 @@ fn stretch_of(left: usize, most: usize) -> usize
 // ---- y
 
 // The state of stream 2 that has absorbed rand and the counter, two bytes, low first.
-fn start_y(digit: u8, rand: &[u8], counter: u16) -> Sponge
-    requires { ⌜ digit < 16 ⌝ }
-    ensures { λ r. ⌜ r ≡ absorbed (fresh digit 2) (now (rand .entry) ++ twoBytes counter) ⌝ }
+fn start_y(set: Numbers, rand: &[u8], counter: u16) -> Sponge
+    requires { ⌜ set .digit < 16 ⌝ }
+    ensures { λ r. ⌜ r ≡ absorbed (fresh (set .digit) 2) (now (rand .entry) ++ twoBytes counter) ⌝ }
 {
     let low_first = [(counter % 256) as u8, (counter / 256) as u8];
-    sets::fresh_state(digit, 2).absorb(rand).absorb(&low_first)
+    set.fresh_y().absorb(rand).absorb(&low_first)
 }
 
 // The values from 0 to 2b of twice as many candidates as out has places, squeezed at most 136 at a time, each less b, into out.
 fn draw_less(start: Sponge, bits: u32, b: u32, out: &mut [i32])
-    requires { ⌜ LessDrawn bits b ⌝ }
+    requires { ⌜ Less bits b ⌝ }
     ensures { λ _. ⌜ now (out .exit)
         ≡ map (lessOf b) (values (2 * b + 1) (length (now (out .entry))) (candidates 3 bits (squeezed (3 * (2 * length (now (out .entry)))) start))) ⌝ }
 {
@@ -55,7 +54,7 @@ fn draw_less(start: Sponge, bits: u32, b: u32, out: &mut [i32])
         left -= k;
         let after = sponge.squeeze(&mut buffer[..bytes]);
         sponge = after;
-        at = less_stretch(&buffer[..bytes], 3, bits, b, left, out, at);
+        at = less_stretch(&buffer[..bytes], bits, b, left, out, at);
     }
 }
 
@@ -64,7 +63,7 @@ pub fn draw_y(set: Numbers, rand: &[u8], counter: u16, out: &mut [i32])
     requires { ⌜ DrawY set (length (now out)) ⌝ }
     ensures { λ _. ⌜ now (out .exit) ≡ yOf set (now (rand .entry)) counter ⌝ }
 {
-    draw_less(start_y(set.digit, rand, counter), set.z_bits, set.b, out)
+    draw_less(start_y(set, rand, counter), set.z_bits, set.b, out)
 }
 
 // ---- c
@@ -93,7 +92,7 @@ pub fn draw_enc(set: Numbers, c: &[u8], positions: &mut [u16], signs: &mut [i8])
     requires { ⌜ DrawEnc set (length (now positions)) (length (now signs)) ⌝ }
     ensures { λ _. ⌜ AreDrawn (encOf set (now (c .entry))) (now (positions .exit)) (now (signs .exit)) ⌝ }
 {
-    let start = sets::fresh_state(set.digit, 7).absorb(c);
+    let start = set.fresh_enc().absorb(c);
     draw_positions(start, set.n as u32, set.position_bits, positions, signs)
 }
 
@@ -116,35 +115,10 @@ pub fn start_a(set: Numbers, seed_a: &[u8]) -> DrawA
 {
     let need = set.k * set.n;
     DrawA {
-        sponge: sets::fresh_state(set.digit, 1).absorb(seed_a),
+        sponge: set.fresh_a().absorb(seed_a),
         left: 4 * need,
         need,
     }
-}
-
-// The values below range of a stretch that `later` candidates follow, where `need` values are needed, in out and beyond it: stored
-// from `at` on. The stretch holds no more candidates than out has places left. Answers the next place.
-fn put_values(
-    stretch: &[u8],
-    bits: u32,
-    range: u32,
-    later: usize,
-    need: usize,
-    out: &mut [u32],
-    at: usize,
-) -> usize
-    requires { ⌜ Needed bits later need (now stretch) (length (now out)) at ⌝ }
-    ensures { λ r. ⌜ Stored (part range need later (candidates 4 bits (now (stretch .entry)))) (now (out .entry)) at (now (out .exit)) r ⌝ }
-{
-    let held = stretch.len() / 4;
-    let mut next = at;
-    let mut j = 0;
-    while j < held {
-        let c = candidate(stretch, 4, bits, j);
-        j += 1;
-        next = take_value(c, range, held - j + later, need - (next - at), out, next);
-    }
-    next
 }
 
 // The next a_i, n values below q, into out: candidates are squeezed at most 102 at a time, and no more than out has places left, so
@@ -164,7 +138,7 @@ pub fn next_a(set: Numbers, d: DrawA, out: &mut [u32]) -> DrawA
         left -= k;
         let after = sponge.squeeze(&mut buffer[..bytes]);
         sponge = after;
-        let next = put_values(&buffer[..bytes], set.t_bits, set.q, left, need, out, at);
+        let next = values_stretch(&buffer[..bytes], set.t_bits, set.q, left, need, out, at);
         need -= next - at;
         at = next;
     }

@@ -6,39 +6,19 @@ ghost use mathlib.Core.Path.{_≡_};
 ghost use mathlib.Core.List.{[], _∷_, map};
 ghost use Prim.Native.Nat.{_+_, _-_, _*_, _/_, _%_, _^_, _≤_, _<_};
 ghost use lib.ListN.{length, take};
-ghost use Rattle.answers.specs.Tests.{answer, after};
+ghost use Rattle.answers.specs.Answers.{numberOf};
 ghost use Rattle.sets.specs.Good.{Good};
 ghost use Rattle.sets.specs.SetI.{setI};
 ghost use Rattle.sampling.specs.Candidates.{held, piece, candidates};
-ghost use Rattle.sampling.specs.Positions.{isIn, free, signOf, drawnCandidates, positionsOf, signsOf};
+ghost use Rattle.sampling.specs.Positions.{isIn, free, signOf, drawnCandidates};
 ghost use Rattle.sampling.specs.ValuesLaws.{part, lessOf};
 ghost use Rattle.sampling.specs.PositionsLaws.{partPositions, drawnAs};
-ghost use Rattle.sampling.specs.Lent.{testsA, lentA, testsY, lentY, testsEnc, lentEnc};
-ghost use Rattle.sampling.specs.Asks.{Width, Stretch, Less, Upward, Placing};
+ghost use Rattle.sampling.specs.Asks.{Reads, TakeValue, ValuesStretch, TakeLess, LessStretch, TakePosition, PositionsStretch};
+ghost use Rattle.sampling.specs.Promises.{Upward, TakesA, TakesY, TakesPositions};
 ghost use Rattle.sampling.specs.Stored.{Stored, StoredDrawn};
-ghost use Rattle.sampling.specs.Answers.{takenNumber};
+use answers::Answer;
 use sets::Numbers;
 use sets::SetI;
-
-// What comes back.
-pub enum Taken {
-    // 0: the outputs are written
-    Done,
-    // 1: more is needed than the stream holds, or a length is not the one named
-    Length,
-}
-
-impl Taken {
-    // Document 01's number.
-    pub fn number(self) -> u8
-        ensures { λ r. ⌜ r ≡ takenNumber self ⌝ }
-    {
-        match self {
-            Taken::Done => 0,
-            Taken::Length => 1,
-        }
-    }
-}
 
 // ---- candidates
 
@@ -51,8 +31,7 @@ fn wide(b: u8) -> u64
 
 // Candidate j: the low bits of the number that the size bytes from size · j on make, low byte first.
 fn candidate(stretch: &[u8], size: usize, bits: u32, j: usize) -> u32
-    requires { ⌜ Width size bits ⌝ }
-    requires { ⌜ j < held size (now stretch) ⌝ }
+    requires { ⌜ Reads size bits (now stretch) j ⌝ }
     ensures { λ r. ⌜ r ≡ piece size (now (stretch .entry)) j % 2 ^ bits ⌝ }
 {
     let from = size * j;
@@ -70,7 +49,7 @@ fn candidate(stretch: &[u8], size: usize, bits: u32, j: usize) -> u32
 // One candidate for a value below range, with `left` candidates after it and `need` values needed: what is taken of it is stored at
 // next. Answers the next place.
 fn take_value(c: u32, range: u32, left: usize, need: usize, out: &mut [u32], next: usize) -> usize
-    requires { ⌜ (0 < need) × (next < length (now out)) ⌝ }
+    requires { ⌜ TakeValue need next (length (now out)) ⌝ }
     ensures { λ r. ⌜ Stored (part range need left (c ∷ [])) (now (out .entry)) next (now (out .exit)) r ⌝ }
 {
     if c < range {
@@ -84,30 +63,31 @@ fn take_value(c: u32, range: u32, left: usize, need: usize, out: &mut [u32], nex
     next
 }
 
-// The values below range of a stretch that `later` candidates follow, stored in out from `at` on. Answers the next place.
+// The values below range of a stretch that `later` candidates follow, where `need` values are needed of all of them: stored in out from
+// `at` on. Answers the next place.
 fn values_stretch(
     stretch: &[u8],
-    size: usize,
     bits: u32,
     range: u32,
     later: usize,
+    need: usize,
     out: &mut [u32],
     at: usize,
 ) -> usize
-    requires { ⌜ Stretch size bits later (now stretch) (length (now out)) at ⌝ }
-    ensures { λ r. ⌜ Stored (part range (length (now (out .entry)) - at) later (candidates size bits (now (stretch .entry)))) (now (out .entry)) at (now (out .exit)) r ⌝ }
+    requires { ⌜ ValuesStretch bits later need (now stretch) (length (now out)) at ⌝ }
+    ensures { λ r. ⌜ Stored (part range need later (candidates 4 bits (now (stretch .entry)))) (now (out .entry)) at (now (out .exit)) r ⌝ }
 {
-    let held = stretch.len() / size;
-    let end = out.len();
+    let held = stretch.len() / 4;
     let mut next = at;
     let mut j = 0;
     while j < held {
-        if next == end {
+        let taken = next - at;
+        if taken == need {
             return next;
         }
-        let c = candidate(stretch, size, bits, j);
+        let c = candidate(stretch, 4, bits, j);
         j += 1;
-        next = take_value(c, range, held - j + later, end - next, out, next);
+        next = take_value(c, range, held - j + later, need - taken, out, next);
     }
     next
 }
@@ -125,8 +105,7 @@ fn less(v: u32, b: u32) -> i32
 // One candidate for a value from 0 to 2b, with `left` candidates after it and `need` values needed: what is taken of it, less b, is
 // stored at next. Answers the next place.
 fn take_less(c: u32, b: u32, left: usize, need: usize, out: &mut [i32], next: usize) -> usize
-    requires { ⌜ (0 < need) × (next < length (now out)) ⌝ }
-    requires { ⌜ (b < 2 ^ 31) × (c < 2 * (2 * b + 1)) ⌝ }
+    requires { ⌜ TakeLess b c need next (length (now out)) ⌝ }
     ensures { λ r. ⌜ Stored (map (lessOf b) (part (2 * b + 1) need left (c ∷ []))) (now (out .entry)) next (now (out .exit)) r ⌝ }
 {
     let range = 2 * b + 1;
@@ -144,18 +123,16 @@ fn take_less(c: u32, b: u32, left: usize, need: usize, out: &mut [i32], next: us
 // The values from 0 to 2b of a stretch that `later` candidates follow, each less b, stored in out from `at` on. Answers the next place.
 fn less_stretch(
     stretch: &[u8],
-    size: usize,
     bits: u32,
     b: u32,
     later: usize,
     out: &mut [i32],
     at: usize,
 ) -> usize
-    requires { ⌜ Stretch size bits later (now stretch) (length (now out)) at ⌝ }
-    requires { ⌜ Less bits b ⌝ }
-    ensures { λ r. ⌜ Stored (map (lessOf b) (part (2 * b + 1) (length (now (out .entry)) - at) later (candidates size bits (now (stretch .entry))))) (now (out .entry)) at (now (out .exit)) r ⌝ }
+    requires { ⌜ LessStretch bits b later (now stretch) (length (now out)) at ⌝ }
+    ensures { λ r. ⌜ Stored (map (lessOf b) (part (2 * b + 1) (length (now (out .entry)) - at) later (candidates 3 bits (now (stretch .entry))))) (now (out .entry)) at (now (out .exit)) r ⌝ }
 {
-    let held = stretch.len() / size;
+    let held = stretch.len() / 3;
     let end = out.len();
     let mut next = at;
     let mut j = 0;
@@ -163,7 +140,7 @@ fn less_stretch(
         if next == end {
             return next;
         }
-        let c = candidate(stretch, size, bits, j);
+        let c = candidate(stretch, 3, bits, j);
         j += 1;
         next = take_less(c, b, held - j + later, end - next, out, next);
     }
@@ -232,8 +209,7 @@ fn take_position(
     signs: &mut [i8],
     next: usize,
 ) -> usize
-    requires { ⌜ (p < n) × (n ≤ 65536) ⌝ }
-    requires { ⌜ (0 < need) × ((next < length (now positions)) × (next < length (now signs))) ⌝ }
+    requires { ⌜ TakePosition p n need next (length (now positions)) (length (now signs)) ⌝ }
     ensures { λ r. ⌜ StoredDrawn (partPositions n need left (take next (now (positions .entry))) (drawnAs p sign ∷ [])) (now (positions .entry)) (now (signs .entry)) next (now (positions .exit)) (now (signs .exit)) r ⌝ }
 {
     if is_in(&positions[..next], p) {
@@ -262,8 +238,7 @@ fn positions_stretch(
     signs: &mut [i8],
     at: usize,
 ) -> usize
-    requires { ⌜ Stretch 3 bits later (now stretch) (length (now positions)) at ⌝ }
-    requires { ⌜ Placing n bits (length (now positions)) (length (now signs)) ⌝ }
+    requires { ⌜ PositionsStretch n bits later (now stretch) (length (now positions)) (length (now signs)) at ⌝ }
     ensures { λ r. ⌜ StoredDrawn (partPositions n (length (now (positions .entry)) - at) later (take at (now (positions .entry))) (drawnCandidates bits (now (stretch .entry)))) (now (positions .entry)) (now (signs .entry)) at (now (positions .exit)) (now (signs .exit)) r ⌝ }
 {
     let held = stretch.len() / 3;
@@ -294,47 +269,43 @@ fn positions_stretch(
 // ---- over a lent stream
 
 // As many values for a as out has places.
-fn lent_a(set: Numbers, stream: &[u8], out: &mut [u32]) -> Taken
+fn lent_a(set: Numbers, stream: &[u8], out: &mut [u32]) -> Answer
     requires { ⌜ Good set ⌝ }
-    ensures { λ r. ⌜ takenNumber r ≡ answer (testsA (now (stream .entry)) (length (now (out .entry)))) ⌝ }
-    ensures { λ r. ⌜ now (out .exit) ≡ after (answer (testsA (now (stream .entry)) (length (now (out .entry))))) (lentA set (now (stream .entry)) (length (now (out .entry)))) (now (out .entry)) ⌝ }
+    ensures { λ r. ⌜ TakesA set (now (stream .entry)) (now (out .entry)) (now (out .exit)) (numberOf r) ⌝ }
 {
     if stream.len() / 4 < out.len() {
-        return Taken::Length;
+        return Answer::Length;
     }
-    values_stretch(stream, 4, set.t_bits, set.q, 0, out, 0);
-    Taken::Done
+    values_stretch(stream, set.t_bits, set.q, 0, out.len(), out, 0);
+    Answer::Done
 }
 
 // As many values for y as out has places, each less b.
-fn lent_y(set: Numbers, stream: &[u8], out: &mut [i32]) -> Taken
+fn lent_y(set: Numbers, stream: &[u8], out: &mut [i32]) -> Answer
     requires { ⌜ Good set ⌝ }
-    ensures { λ r. ⌜ takenNumber r ≡ answer (testsY (now (stream .entry)) (length (now (out .entry)))) ⌝ }
-    ensures { λ r. ⌜ now (out .exit) ≡ after (answer (testsY (now (stream .entry)) (length (now (out .entry))))) (lentY set (now (stream .entry)) (length (now (out .entry)))) (now (out .entry)) ⌝ }
+    ensures { λ r. ⌜ TakesY set (now (stream .entry)) (now (out .entry)) (now (out .exit)) (numberOf r) ⌝ }
 {
     if stream.len() / 3 < out.len() {
-        return Taken::Length;
+        return Answer::Length;
     }
-    less_stretch(stream, 3, set.z_bits, set.b, 0, out, 0);
-    Taken::Done
+    less_stretch(stream, set.z_bits, set.b, 0, out, 0);
+    Answer::Done
 }
 
 // As many positions with signs as there are places.
-fn lent_positions(set: Numbers, stream: &[u8], positions: &mut [u16], signs: &mut [i8]) -> Taken
+fn lent_positions(set: Numbers, stream: &[u8], positions: &mut [u16], signs: &mut [i8]) -> Answer
     requires { ⌜ Good set ⌝ }
-    ensures { λ r. ⌜ takenNumber r ≡ answer (testsEnc set (now (stream .entry)) (length (now (positions .entry))) (length (now (signs .entry)))) ⌝ }
-    ensures { λ r. ⌜ now (positions .exit) ≡ after (answer (testsEnc set (now (stream .entry)) (length (now (positions .entry))) (length (now (signs .entry))))) (positionsOf (lentEnc set (now (stream .entry)) (length (now (positions .entry))))) (now (positions .entry)) ⌝ }
-    ensures { λ r. ⌜ now (signs .exit) ≡ after (answer (testsEnc set (now (stream .entry)) (length (now (positions .entry))) (length (now (signs .entry))))) (signsOf (lentEnc set (now (stream .entry)) (length (now (positions .entry))))) (now (signs .entry)) ⌝ }
+    ensures { λ r. ⌜ TakesPositions set (now (stream .entry)) (now (positions .entry)) (now (signs .entry)) (now (positions .exit)) (now (signs .exit)) (numberOf r) ⌝ }
 {
     let need = positions.len();
     if signs.len() != need {
-        return Taken::Length;
+        return Answer::Length;
     }
     if stream.len() / 3 < need {
-        return Taken::Length;
+        return Answer::Length;
     }
     if set.n < need {
-        return Taken::Length;
+        return Answer::Length;
     }
     positions_stretch(
         stream,
@@ -345,30 +316,26 @@ fn lent_positions(set: Numbers, stream: &[u8], positions: &mut [u16], signs: &mu
         signs,
         0,
     );
-    Taken::Done
+    Answer::Done
 }
 
 // Values for a from a lent stream, as many as out has places: candidates of 4 bytes, low 29 bits, below q.
-pub fn take_a(stream: &[u8], out: &mut [u32]) -> Taken
-    ensures { λ r. ⌜ takenNumber r ≡ answer (testsA (now (stream .entry)) (length (now (out .entry)))) ⌝ }
-    ensures { λ r. ⌜ now (out .exit) ≡ after (answer (testsA (now (stream .entry)) (length (now (out .entry))))) (lentA setI (now (stream .entry)) (length (now (out .entry)))) (now (out .entry)) ⌝ }
+pub fn take_a(stream: &[u8], out: &mut [u32]) -> Answer
+    ensures { λ r. ⌜ TakesA setI (now (stream .entry)) (now (out .entry)) (now (out .exit)) (numberOf r) ⌝ }
 {
     lent_a(SetI::numbers(), stream, out)
 }
 
 // Values for y from a lent stream, as many as out has places: candidates of 3 bytes, low 20 bits, from 0 to 2B, each less B.
-pub fn take_y(stream: &[u8], out: &mut [i32]) -> Taken
-    ensures { λ r. ⌜ takenNumber r ≡ answer (testsY (now (stream .entry)) (length (now (out .entry)))) ⌝ }
-    ensures { λ r. ⌜ now (out .exit) ≡ after (answer (testsY (now (stream .entry)) (length (now (out .entry))))) (lentY setI (now (stream .entry)) (length (now (out .entry)))) (now (out .entry)) ⌝ }
+pub fn take_y(stream: &[u8], out: &mut [i32]) -> Answer
+    ensures { λ r. ⌜ TakesY setI (now (stream .entry)) (now (out .entry)) (now (out .exit)) (numberOf r) ⌝ }
 {
     lent_y(SetI::numbers(), stream, out)
 }
 
 // Positions with signs from a lent stream, as many as there are places: candidates of 3 bytes, low 10 bits.
-pub fn take_positions(stream: &[u8], positions: &mut [u16], signs: &mut [i8]) -> Taken
-    ensures { λ r. ⌜ takenNumber r ≡ answer (testsEnc setI (now (stream .entry)) (length (now (positions .entry))) (length (now (signs .entry)))) ⌝ }
-    ensures { λ r. ⌜ now (positions .exit) ≡ after (answer (testsEnc setI (now (stream .entry)) (length (now (positions .entry))) (length (now (signs .entry))))) (positionsOf (lentEnc setI (now (stream .entry)) (length (now (positions .entry))))) (now (positions .entry)) ⌝ }
-    ensures { λ r. ⌜ now (signs .exit) ≡ after (answer (testsEnc setI (now (stream .entry)) (length (now (positions .entry))) (length (now (signs .entry))))) (signsOf (lentEnc setI (now (stream .entry)) (length (now (positions .entry))))) (now (signs .entry)) ⌝ }
+pub fn take_positions(stream: &[u8], positions: &mut [u16], signs: &mut [i8]) -> Answer
+    ensures { λ r. ⌜ TakesPositions setI (now (stream .entry)) (now (positions .entry)) (now (signs .entry)) (now (positions .exit)) (now (signs .exit)) (numberOf r) ⌝ }
 {
     lent_positions(SetI::numbers(), stream, positions, signs)
 }

@@ -1,4 +1,4 @@
--- `take_less` meets its contract. Assumes nothing.
+-- `sampling::take_less` meets its contract. Assumes nothing.
 use mathlib.Core.Path.{_∙_}
 use Prim.Native.Nat.{_+_, _*_}
 use native.Mathlib.Omega.{arith}
@@ -58,9 +58,7 @@ returns-2 c =
     (stored-one (toZ-ofZ (sfits-of (c .less2 .ok)) ∙ c .less2 .ensures) (omega arith))
 
 returns-3 : tie.Need-returns-3
-returns-3 c =
-    let a = c .before .before .args in
-    rw (one-skip (2 * a .b + 1) (a .need) (a .left) (a .c) (omega arith) (omega arith) (omega arith)) (stored-none (a .out .now) (omega arith))
+returns-3 c = search (one-skip, stored-none, needs)
 
 pub take-less-spec : {M : Type 1} → statement M
 take-less-spec =

@@ -1,6 +1,6 @@
 -- `records::public::write` meets its contract. Assumes nothing.
 use borrow.Author.Needs.{needs}
-use Rattle.answers.specs.OutputLaws.{made, kept}
+use Rattle.answers.specs.OutputLaws.{made-done, kept-refused}
 use Rattle.records.proofs.PublicSteps.{write-puts}
 use Rattle.records.proofs.public.write.Statement.{statement}
 use Rattle.records.proofs.public.write.Tie as tie
@@ -13,5 +13,5 @@ write-spec =
     (λ c κs. search needs)
     (λ c κs. search (write-puts, needs))
     (λ c. search needs)
-    (λ c. search (made, needs))
-    (λ c. search (kept, needs)))
+    (λ c. search (made-done, needs))
+    (λ c. search (kept-refused, needs)))

@@ -1,6 +1,6 @@
 -- `records::secret::read` meets its contract. Assumes nothing.
 use borrow.Author.Needs.{needs}
-use Rattle.answers.specs.OutputLaws.{made, kept}
+use Rattle.answers.specs.OutputLaws.{made-done, kept-refused}
 use Rattle.records.proofs.SecretSteps.{read-takes}
 use Rattle.records.proofs.secret.read.Statement.{statement}
 use Rattle.records.proofs.secret.read.Tie as tie
@@ -17,5 +17,5 @@ read-spec =
     (λ c. search needs)
     (λ c. search needs)
     (λ c. search needs)
-    (λ c. search (made, needs))
-    (λ c. search (kept, needs)))
+    (λ c. search (made-done, needs))
+    (λ c. search (kept-refused, needs)))

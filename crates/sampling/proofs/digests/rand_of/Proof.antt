@@ -1,52 +1,30 @@
--- `rand_of` meets its contract: stream 3 of seed_y, r and G of the message. Assumes nothing.
-use mathlib.Core.Path.{_∙_}
-use native.Mathlib.Omega.{arith}
-use Rattle.sampling.specs.Streams.{randOf}
-use Rattle.sampling.specs.SpongeLaws.{three-squeezed}
+-- `sampling::digests::rand_of` meets its contract: stream 3 of seed_y, r and G of the message. Assumes nothing.
 use borrow.Author.Needs.{needs}
-use Rattle.whole.specs.Below.{below-bytes}
+use Rattle.whole.specs.Below.{Below, below-bytes}
+use Rattle.sampling.proofs.StreamSteps.{rand-made}
 use Rattle.sampling.proofs.digests.rand_of.Statement.{statement}
 use Rattle.sampling.proofs.digests.rand_of.Tie as tie
 
-fresh-state-requires : tie.Need-fresh-state-requires
-fresh-state-requires c κs = search needs
+seed-bytes : (c : tie.After-shared-slice-known) → Below 256 (c .before .args .seed-y .now)
+seed-bytes c = below-bytes _ (λ i. c .shared-slice-known .given i .fits)
 
-absorb-requires : tie.Need-absorb-requires
-absorb-requires c κs = search needs
+r-bytes : (c : tie.After-shared-slice-known2) → Below 256 (c .before .before .args .r .now)
+r-bytes c = below-bytes _ (λ i. c .shared-slice-known2 .given i .fits)
 
-absorb-requires-2 : tie.Need-absorb-requires-2
-absorb-requires-2 c κs = search needs
-
-absorb-requires-3 : tie.Need-absorb-requires-3
-absorb-requires-3 c κs = search needs
-
-squeeze-requires : tie.Need-squeeze-requires
-squeeze-requires c κs = search needs
-
-same-length : tie.Need-same-length
-same-length c = search needs
+digest-bytes : (c : tie.After-shared-slice-known3) → Below 256 (c .before .before .before .args .digest .now)
+digest-bytes c = below-bytes _ (λ i. c .shared-slice-known3 .given i .fits)
 
 returns : tie.Need-returns
-unfolding randOf
-returns c =
-    let known = c .before .before .before .before .before .before .before .before .before in
-    let start = known .before .before .before in
-    let absorbs = c .before .before .before .before in
-    c .before .before .squeeze .ensures .1
-    ∙ rw (start .pre .long, absorbs .absorb3 .ensures, absorbs .before .absorb2 .ensures, absorbs .before .before .absorb .ensures, absorbs .before .before .before .fresh-state .ensures)
-    (three-squeezed (start .args .set .digit) 3 _ _ _ 32 (start .pre .good .digit-fits) (omega arith)
-    (below-bytes _ (λ i. known .before .before .shared-slice-known .given i .fits))
-    (below-bytes _ (λ i. known .before .shared-slice-known2 .given i .fits))
-    (below-bytes _ (λ i. known .shared-slice-known3 .given i .fits)))
+returns c = search (rand-made, seed-bytes, r-bytes, digest-bytes, needs)
 
 pub rand-of-spec : {M : Type 1} → statement M
 rand-of-spec =
     tie.close
     (tie.spec
-    fresh-state-requires
-    absorb-requires
-    absorb-requires-2
-    absorb-requires-3
-    squeeze-requires
-    same-length
+    (λ c κs. search needs)
+    (λ c κs. search needs)
+    (λ c κs. search needs)
+    (λ c κs. search needs)
+    (λ c κs. search needs)
+    (λ c. search needs)
     returns)

@@ -1,0 +1,89 @@
+-- The streams as the code makes them: a fresh state, inputs absorbed one after another, and what is squeezed or drawn then.
+--     message-closed, message-digested      G of a message
+--     key-digested, rand-made               g and rand
+--     y-started, y-drawn, enc-drawn         y and c
+-- Assumes nothing.
+use mathlib.Core.Path.{_≡_, ap, _∙_}
+use mathlib.Core.List.{List, [], _∷_, _++_, map}
+use Prim.Native.Nat.{ℕ, _+_, _*_, _/_, _%_, _^_, _<_}
+use native.Mathlib.Omega.{arith}
+use lib.IntN.{ℤ}
+use Rattle.whole.specs.Below.{Below, below-append}
+use Rattle.shake.specs.declared.Sponge.{Sponge}
+use Rattle.shake.specs.Sponge.{absorbed, squeezed}
+use Rattle.sets.specs.declared.Numbers.{Numbers}
+use Rattle.sets.specs.Good.{Good}
+use Rattle.sets.specs.GoodLaws.{y-small}
+use Rattle.sets.specs.Limits.{seedBytes, digestBytes}
+use Rattle.sets.specs.Marks.{fresh}
+use Rattle.sampling.specs.Candidates.{candidates}
+use Rattle.sampling.specs.Values.{values}
+use Rattle.sampling.specs.ValuesLaws.{lessOf}
+use Rattle.sampling.specs.Positions.{placesOf, AreDrawn}
+use Rattle.sampling.specs.Streams.{twoBytes, yOf, randOf, messageDigest, keyDigest, encOf}
+use Rattle.sampling.specs.SpongeLaws.{stream-squeezed, two-pieces, three-squeezed, two-below}
+use Rattle.sampling.specs.Asks.{Less}
+use Rattle.sampling.specs.Promises.{ClosesMessage}
+
+-- ---- y
+
+module _ (digit counter : ℕ) (rand : List ℕ) {s₀ s₁ s₂ : Sponge} where
+  pub y-started : s₀ ≡ fresh digit 2 → s₁ ≡ absorbed s₀ rand → s₂ ≡ absorbed s₁ ((counter % 256) ∷ (counter / 256) ∷ []) → counter < 2 ^ 16
+      → s₂ ≡ absorbed (fresh digit 2) (rand ++ twoBytes counter)
+  y-started e first second small =
+      two-pieces (fresh digit 2) rand ((counter % 256) ∷ (counter / 256) ∷ []) (rw e at first) second
+      ∙ ap (λ (b : ℕ). absorbed (fresh digit 2) (rand ++ ((counter % 256) ∷ b ∷ []))) high
+    where
+      high : counter / 256 ≡ counter / 256 % 256
+      high = omega arith
+
+module _ {set : Numbers} (good : Good set) where
+  -- ---- G of a message
+
+  pub message-closed : {state : Sponge} {out : List ℕ} {n : ℕ} → out ≡ squeezed n state → n ≡ digestBytes → ClosesMessage set state out
+  unfolding messageDigest
+  message-closed {state} {out} e long =
+      record {
+        bytes = bytes;
+        is = λ message below f. bytes ∙ ap (squeezed digestBytes) f ∙ stream-squeezed (set .digit) 4 message digestBytes (good .digit-fits) (omega arith) below;
+      }
+    where
+      bytes : out ≡ squeezed digestBytes state
+      bytes = rw long at e
+
+  module _ {s₀ s₁ : Sponge} where
+    pub key-digested : {packed out : List ℕ} {n : ℕ} → s₀ ≡ fresh (set .digit) 5 → s₁ ≡ absorbed s₀ packed → out ≡ squeezed n s₁ → n ≡ digestBytes
+        → Below 256 packed → out ≡ keyDigest set packed
+    unfolding keyDigest
+    key-digested {packed} e f out long below =
+        out ∙ rw (long, f, e) (stream-squeezed (set .digit) 5 packed digestBytes (good .digit-fits) (omega arith) below)
+
+    pub enc-drawn : {c ps : List ℕ} {ss : List ℤ} (places : ℕ) → s₀ ≡ fresh (set .digit) 7 → s₁ ≡ absorbed s₀ c → places ≡ set .h → Below 256 c
+        → AreDrawn (placesOf (set .n) (set .«position_bits») places (squeezed (3 * 256) s₁)) ps ss → AreDrawn (encOf set c) ps ss
+    unfolding encOf
+    enc-drawn {c} places e f long below drawn =
+        rw (long, f, e, stream-squeezed (set .digit) 7 c (3 * 256) (good .digit-fits) (omega arith) below) at drawn
+
+    pub rand-made : {s₂ s₃ : Sponge} {a b c out : List ℕ} {n : ℕ} → s₀ ≡ fresh (set .digit) 3 → s₁ ≡ absorbed s₀ a → s₂ ≡ absorbed s₁ b → s₃ ≡ absorbed s₂ c
+        → out ≡ squeezed n s₃ → n ≡ seedBytes → Below 256 a → Below 256 b → Below 256 c → out ≡ randOf set a b c
+    unfolding randOf
+    rand-made {a = a} {b = b} {c = c} e f g h out long x y z =
+        out ∙ rw (long, h, g, f, e) (three-squeezed (set .digit) 3 a b c seedBytes (good .digit-fits) (omega arith) x y z)
+
+  -- a value for y less b
+  pub y-less : Less (set .«z_bits») (set .b)
+  y-less = record { narrow = omega (arith, good .y-bytes); small = omega (arith, y-small good); once = good .y-once }
+
+  pub y-drawn : {state : Sponge} {rand : List ℕ} {out : List ℤ} (counter places : ℕ) → state ≡ absorbed (fresh (set .digit) 2) (rand ++ twoBytes counter)
+      → out ≡ map (lessOf (set .b)) (values (2 * set .b + 1) places (candidates 3 (set .«z_bits») (squeezed (3 * (2 * places)) state)))
+      → places ≡ set .n → Below 256 rand → out ≡ yOf set rand counter
+  unfolding yOf
+  y-drawn {state} {rand} counter places e out long below =
+      out ∙ rw (long, e, stream-squeezed (set .digit) 2 (rand ++ twoBytes counter) (3 * (2 * set .n)) (good .digit-fits) (omega arith) bytes)
+    where
+      bytes : Below 256 (rand ++ twoBytes counter)
+      bytes = below-append 256 rand (twoBytes counter) below (two-below counter)
+
+pub message-digested : {set : Numbers} {s₀ s₁ : Sponge} {message out : List ℕ} → ClosesMessage set s₁ out → s₀ ≡ fresh (set .digit) 4
+    → s₁ ≡ absorbed s₀ message → Below 256 message → out ≡ messageDigest set message
+message-digested {message = message} closed e f below = closed .is message below (rw e at f)
