@@ -2,4 +2,3 @@ pub mod Tests
 pub mod TestLaws
 pub mod OutputLaws
 pub mod Answers
-pub mod OutputLaws
