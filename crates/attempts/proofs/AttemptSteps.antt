@@ -19,43 +19,34 @@ use Rattle.shake.specs.Pieces.{length-squeezed}
 use Rattle.sets.specs.declared.Numbers.{Numbers}
 use Rattle.sets.specs.Marks.{fresh}
 use Rattle.sets.specs.SetI.{setI}
-use Rattle.sampling.specs.Positions.{Drawn, polynomialOf}
+use Rattle.sampling.specs.Positions.{Drawn, polynomialOf, AreDrawn}
 use Rattle.sampling.specs.Streams.{allA, aOf, yOf, encOf, challenge, highsOf}
 use Rattle.sampling.specs.StreamsLaws.{allA-length, allA-below, encOf-length, encOf-signed, yOf-length}
 use Rattle.sampling.specs.SpongeLaws.{challenge-squeezed}
-use Rattle.sampling.specs.DrawnAsks.{DrawEnc, AreDrawn}
+use Rattle.sampling.specs.Asks.{DrawEnc}
 use Rattle.records.specs.Layout.{polynomial, secretBytes}
 use Rattle.sets.specs.Limits.{seedBytes, digestBytes}
 use Rattle.records.specs.Secret.{sOf, allE, secretSeedA, secretG}
 use Rattle.signatures.specs.Signature.{zInRange, signatureRecord}
 use Rattle.signatures.specs.Parts.{WritesChecked}
 use Rattle.highs.specs.declared.Highs.{Highs}
+use Rattle.highs.specs.Highs.{Held, Hashes}
+use Rattle.highs.specs.HighsLaws.{hashes-long}
 use Rattle.attempts.specs.declared.Tried.{Tried}
 use Rattle.attempts.specs.declared.Tried.the-variants.{Passes, Fails, Overflows}
-use Rattle.attempts.specs.Attempt.{Outcome, passes, fails, overflows, vOf, zFrom, wOf, wPasses, attemptPasses, answered, tried, attempt}
-use Rattle.attempts.specs.Sign.{keyOf}
+use Rattle.attempts.specs.Attempt.{Outcome, passes, fails, overflows, vOf, zFrom, wOf, wPasses, attemptPasses, answered, tried, attempt, keyOf}
 use Rattle.attempts.specs.Parts.{vRow, zWith, wOne, wWith, rowPasses}
 use Rattle.attempts.specs.Promises.{Committed, Challenged, Responded, concluded, Concluded, Tries, triedOf, triedSignature}
-use Rattle.attempts.specs.Asks.{Known, known-i, Whole, Terms, MakesZ, TestsW, Commits, Responds, RespondsKey, Concludes, Places, Attempts}
-use Rattle.attempts.proofs.InputSteps.{s-lent, e-lent, s-long, e-long}
+use Rattle.attempts.specs.Asks.{Whole, Terms, MakesZ, TestsW, Commits, Responds, RespondsKey, Concludes, Places, Attempts}
+use Rattle.records.specs.SecretLaws.{s-lent, e-lent, s-lent-long, e-lent-long}
 use Rattle.attempts.proofs.ProductSteps.{yOf-within, v-all-below, v-all-length, v-parts}
 
 -- ---- c'
 
 pub challenged : {set : Numbers} {secret : List ℕ} → Whole set secret → {at end : ℕ} → at ≡ 2 + set .n + set .k * set .n + seedBytes + seedBytes → end ≡ secretBytes set
-    → {state : Sponge} {digest c′ : List ℕ} → Below 256 digest → Below 256 secret
-    → c′ ≡ squeezed 32 (absorbed (absorbed state digest) (take (end - at) (drop at secret)))
-    → Challenged set state digest secret c′
+    → {highs : Highs} {digest c′ : List ℕ} → Hashes set highs digest (take (end - at) (drop at secret)) c′ → Challenged set highs digest secret c′
 unfolding secretG
-challenged {set} {secret} w {at} {end} a b {state} {digest} d s e =
-    record {
-      long = ap length e ∙ length-squeezed 32 _;
-      is = λ highs f.
-          e
-          ∙ ap (λ (t : Sponge). squeezed 32 (absorbed (absorbed t digest) (take (end - at) (drop at secret)))) f
-          ∙ challenge-squeezed set (w .good) highs (map (twos 8) highs) digest _ refl (twos-all-below 8 highs) d (below-part 256 at (end - at) secret s)
-          ∙ rw (size, a);
-    }
+challenged {set} {secret} w {at} {end} a b h = record { long = hashes-long h; is = λ parts p. h .is parts p ∙ rw (size, a) }
   where
     size : end - at ≡ digestBytes
     size = omega arith
@@ -125,8 +116,8 @@ module _ {set : Numbers} {secret v : List ℕ} {y z₀ : List ℤ} (r : Responds
   key-responds p s =
       record {
         good = r .whole .good;
-        s-long = s-long set secret (r .whole .long) a b;
-        e-long = e-long set secret (r .whole .long) a b;
+        s-long = s-lent-long set secret a b (r .whole .long);
+        e-long = e-lent-long set secret a b (r .whole .long);
         y-long = r .y-long;
         y-within = r .y-within;
         v-long = r .v-long;
@@ -139,44 +130,44 @@ module _ {set : Numbers} {secret v : List ℕ} {y z₀ : List ℤ} (r : Responds
   pub key-responded : {c′ : List ℕ} {z : List ℤ} {passed : Bool}
       → Responded set (take (at - 2) (drop 2 secret)) (take (end - at) (drop at secret)) c′ y v z passed
       → Responded set (sOf set secret) (allE set secret) c′ y v z passed
-  key-responded t = rw (s-lent set secret (r .whole .long) a b, e-lent set secret (r .whole .long) a b) at t
+  key-responded t = rw (s-lent set secret a b, e-lent set secret a b) at t
 
 -- ---- where the tests pass, the signature record is written
 
 tries : {set : Numbers} {o : Outcome} (p : Outcome) {old new : List ℕ} → o ≡ p → new ≡ triedSignature set p old → Tries set o old new (triedOf p)
 tries p e s = rw e (record { answer = refl; signature = s })
 
-module _ {set : Numbers} {secret signature yr v : List ℕ} {y z₀ : List ℤ} (t : Concludes set secret signature y yr v z₀)
-    {state : Sponge} {digest c : List ℕ} (d : Challenged set state digest secret c)
+module _ {set : Numbers} {secret signature bits v : List ℕ} {y z₀ : List ℤ} (t : Concludes set secret signature y bits v z₀)
+    {highs : Highs} {digest c : List ℕ} (d : Challenged set highs digest secret c)
     {z : List ℤ} {passed : Bool} (r : Responded set (sOf set secret) (allE set secret) c y v z passed) where
-  concluded-is : (highs : List ℤ) → state ≡ absorbed (fresh (set .digit) 6) (map (twos 8) highs)
-      → concluded set secret y v (challenge set highs digest (secretG set secret)) ≡ cond passed (passes z c) fails
+  concluded-is : (parts : List ℤ) → Held set parts highs
+      → concluded set secret y v (challenge set parts digest (secretG set secret)) ≡ cond passed (passes z c) fails
   unfolding concluded
-  concluded-is highs e = rw (← d .is highs e, ← r .passed-is, ← r .z-is)
+  concluded-is parts e = rw (← d .is parts e, ← r .passed-is, ← r .z-is)
 
-  pub concluded-fails : passed ≡ false → Concluded set state digest secret y v signature signature Fails
-  concluded-fails f = record { is = λ highs e. tries fails (concluded-is highs e ∙ rw f) refl }
+  pub concluded-fails : passed ≡ false → Concluded set highs digest secret y v signature signature Fails
+  concluded-fails f = record { is = λ parts e. tries fails (concluded-is parts e ∙ rw f) refl }
 
   module _ (f : passed ≡ true) where
-    pub concluded-writes : {scratch : List ℕ} → length scratch ≡ length yr → length z ≡ length z₀ → WritesChecked set z c signature scratch
+    pub concluded-writes : {scratch : List ℕ} → length scratch ≡ length bits → length z ≡ length z₀ → WritesChecked set z c signature scratch
     unfolding rowPasses
     concluded-writes s l =
         record {
-          room = record { good = t .responds .whole .good; scratch-long = s ∙ t .yr-long };
+          room = record { good = t .responds .whole .good; scratch-long = s ∙ t .bits-long };
           z-long = l ∙ t .responds .z-long;
           z-inside = ap (zInRange set) (r .z-is) ∙ both-first _ _ (sym (r .passed-is) ∙ f);
           c-long = d .long;
           signature-long = t .signature-long;
         }
 
-    pub concluded-passes : {new : List ℕ} → new ≡ signatureRecord set z c → Concluded set state digest secret y v signature new Passes
-    concluded-passes w = record { is = λ highs e. tries (passes z c) (concluded-is highs e ∙ rw f) w }
+    pub concluded-passes : {new : List ℕ} → new ≡ signatureRecord set z c → Concluded set highs digest secret y v signature new Passes
+    concluded-passes w = record { is = λ parts e. tries (passes z c) (concluded-is parts e ∙ rw f) w }
 
 -- ---- the outcome
 
-module _ {set : Numbers} {secret a signature : List ℕ} (t : Attempts set secret a signature) {y₀ z₀ : List ℤ} {yr v₀ bytes : List ℕ}
-    (places : Places set y₀ yr v₀ bytes z₀) where
-  pub attempt-commits : Commits set a y₀ yr v₀ bytes
+module _ {set : Numbers} {secret a signature : List ℕ} (t : Attempts set secret a signature) {y₀ z₀ : List ℤ} {yr v₀ : List ℕ}
+    (places : Places set y₀ yr v₀ z₀) where
+  pub attempt-commits : Commits set a y₀ yr v₀
   attempt-commits =
       record {
         good = t .whole .good;
@@ -185,7 +176,6 @@ module _ {set : Numbers} {secret a signature : List ℕ} (t : Attempts set secre
         y-long = places .y-long;
         yr-long = places .yr-long;
         v-long = places .v-long;
-        bytes-long = places .bytes-long;
       }
 
   module _ {rand : List ℕ} {counter : ℕ} {y : List ℤ} {v : List ℕ} {highs : Highs} (m : Committed set a rand counter y v highs) where
@@ -205,15 +195,15 @@ module _ {set : Numbers} {secret a signature : List ℕ} (t : Attempts set secre
                 v-below = rw (m .v-is) (v-all-below set (t .whole .good) a (yOf set rand counter));
                 z-long = places .z-long;
               };
-          yr-long = s ∙ places .yr-long;
+          bits-long = s ∙ places .yr-long;
           signature-long = t .signature-long;
         }
 
     pub attempt-overflows : (digest : List ℕ) → highs .fit ≡ false → Tries set (attempt set (keyOf set secret) digest rand counter) signature signature Overflows
     unfolding attempt tried keyOf
-    attempt-overflows digest h = tries overflows (rw (← row-is, sym (m .fit-is) ∙ h)) refl
+    attempt-overflows digest h = tries overflows (rw (← row-is, sym (m .held .fit-is) ∙ h)) refl
 
-    module _ (h : highs .fit ≡ true) {digest new : List ℕ} {r : Tried} (d : Concluded set (highs .state) digest secret y v signature new r) where
+    module _ (h : highs .fit ≡ true) {digest new : List ℕ} {r : Tried} (d : Concluded set highs digest secret y v signature new r) where
       same-tests : (c : List ℕ) → rowPasses set (sOf set secret) (allE set secret) y v (encOf set c)
           ≡ attemptPasses set (keyOf set secret) (yOf set rand counter) (vRow set a (yOf set rand counter)) (encOf set c)
       unfolding rowPasses attemptPasses wOf wOne keyOf
@@ -226,19 +216,13 @@ module _ {set : Numbers} {secret a signature : List ℕ} (t : Attempts set secre
       outcome-is : attempt set (keyOf set secret) digest rand counter
           ≡ concluded set secret y v (challenge set (highsOf set (vRow set a (yOf set rand counter))) digest (secretG set secret))
       unfolding attempt tried answered keyOf concluded
-      outcome-is = rw (← row-is, sym (m .fit-is) ∙ h, same-tests, m .y-is)
+      outcome-is = rw (← row-is, sym (m .held .fit-is) ∙ h, same-tests, m .y-is)
 
       pub attempt-concluded : Tries set (attempt set (keyOf set secret) digest rand counter) signature new r
-      attempt-concluded = rw outcome-is (d .is _ (m .state-is))
+      attempt-concluded = rw outcome-is (d .is _ (m .held))
 
--- ---- the sets that there are
+-- ---- set I
 
-pub digit-i : {set : Numbers} → Known set → set .digit ≡ 1 → set ≡ setI
-digit-i (known-i e) d = e
-
-pub no-other : {set : Numbers} → Known set → (set .digit ≡ 1 → ⊥) → ⊥
-no-other (known-i e) d = d (rw e refl)
-
-pub places-i : {set : Numbers} → set ≡ setI → {y z : List ℤ} {yr v bytes : List ℕ}
-    → length y ≡ 1024 → length yr ≡ 1024 → length v ≡ 4096 → length bytes ≡ 1024 → length z ≡ 1024 → Places set y yr v bytes z
-places-i e y yr v bytes z = rw e (record { y-long = y; yr-long = yr; v-long = v; bytes-long = bytes; z-long = z })
+pub places-i : {set : Numbers} → set ≡ setI → {y z : List ℤ} {yr v : List ℕ}
+    → length y ≡ 1024 → length yr ≡ 1024 → length v ≡ 4096 → length z ≡ 1024 → Places set y yr v z
+places-i e y yr v z = rw e (record { y-long = y; yr-long = yr; v-long = v; z-long = z })

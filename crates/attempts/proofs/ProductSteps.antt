@@ -1,29 +1,28 @@
 -- v_1..v_k are made one after another, and then their high parts: the steps up to c'. Assumes nothing.
 use mathlib.Core.Path.{_≡_, sym, ap, _∙_}
-use mathlib.Core.List.{List, _++_, map}
-use Prim.Native.Nat.{ℕ, _+_, _*_, _-_, _≤_, _<_}
-use lib.IntN.{ℤ, pos}
+use mathlib.Core.List.{List, [], _++_}
+use Prim.Native.Nat.{ℕ, _+_, _*_, _-_, _≤_, _<_, zero-le}
+use native.Mathlib.Nat.{le-antisymm}
+use native.Mathlib.Numerals.{add-one}
+use lib.IntN.{ℤ}
 use lib.ListN.{length, take, drop}
 use Rattle.whole.specs.Residue.{residue-eq}
 use Rattle.whole.specs.Table.{joined, joined-ext, joined-length, joined-part, table-ext}
 use Rattle.whole.specs.Below.{Below, below-joined, Within, within-more}
 use Rattle.whole.specs.Rows.{row-lent}
-use Rattle.rounding.specs.Parts.{high}
 use Rattle.ring.specs.Product.{mul}
 use Rattle.ring.specs.Lists.{naturals, integers, residues, length-residues, residues-below, mul-residues}
 use Rattle.ring.specs.Asks.{Factors, Small}
-use Rattle.shake.specs.Sponge.{absorbed}
 use Rattle.sets.specs.declared.Numbers.{Numbers}
 use Rattle.sets.specs.Good.{Good}
-use Rattle.sets.specs.Marks.{fresh}
-use Rattle.whole.specs.Every.{every}
-use Rattle.whole.specs.Twos.{twos}
-use Rattle.rounding.specs.Tests.{fitsByte}
+use Rattle.sets.specs.Known.{Known, known-good}
 use Rattle.highs.specs.declared.Highs.{Highs}
+use Rattle.highs.specs.Highs.{highParts, Held, Adds}
+use Rattle.highs.specs.HighsLaws.{held-more}
 use Rattle.sets.specs.GoodLaws.{q-some}
 use Rattle.sampling.specs.Streams.{yOf, highsOf}
 use Rattle.sampling.specs.StreamsLaws.{yOf-length, yOf-size}
-use Rattle.sampling.specs.Residues.{residues-factors}
+use Rattle.sampling.specs.Residues.{Residues, residues-factors}
 use Rattle.records.specs.Layout.{polynomial}
 use Rattle.records.specs.PublicLaws.{polynomial-length, polynomial-below}
 use Rattle.attempts.specs.Parts.{productOf, vRow}
@@ -102,22 +101,17 @@ product-v set good a y i =
 pub v-parts : (set : Numbers) (a : List ℕ) (y : List ℤ) (i : ℕ) → i < set .k → polynomial (set .n) i (joined (set .k) (vRow set a y)) ≡ vRow set a y i
 v-parts set a y i l = joined-part (set .k) (set .n) i (vRow set a y) (λ j m. v-length set a y j) l
 
-pub v-highs : (set : Numbers) (a : List ℕ) (y : List ℤ) → highsOf set (λ i. polynomial (set .n) i (joined (set .k) (vRow set a y))) ≡ highsOf set (vRow set a y)
-unfolding highsOf
-v-highs set a y =
-    joined-ext (set .k) _ _ (λ i l. ap (map (λ x. high (set .q) (set .d) (pos x))) (v-parts set a y i l))
-
-module _ {set : Numbers} {first : List ℤ} {a yr v bytes : List ℕ} (m : Commits set a first yr v bytes)
+module _ {set : Numbers} (known : Known set) {first : List ℤ} {a yr v : List ℕ} (m : Commits set a first yr v)
     (rand : List ℕ) (counter : ℕ) {y : List ℤ} (e : y ≡ yOf set rand counter) where
   y-long : length y ≡ set .n
-  y-long = ap length e ∙ yOf-length set (m .good) rand counter
+  y-long = ap length e ∙ yOf-length set (known-good known) rand counter
 
   pub commit-small : Small (set .q) y yr
   commit-small =
       record {
-        small = m .good .q-small;
-        some = q-some (m .good);
-        within = rw e (within-more (yOf set rand counter) (m .good .b-small) (yOf-within set (m .good) rand counter));
+        small = known-good known .q-small;
+        some = q-some (known-good known);
+        within = rw e (within-more (yOf set rand counter) (known-good known .b-small) (yOf-within set (known-good known) rand counter));
         long = y-long ∙ sym (m .yr-long);
       }
 
@@ -128,11 +122,11 @@ module _ {set : Numbers} {first : List ℤ} {a yr v bytes : List ℕ} (m : Commi
     pub commit-multiplies : Multiplies set a residual v
     commit-multiplies =
         record {
-          good = m .good;
+          good = known-good known;
           a-long = m .a-long;
           a-below = m .a-below;
           y-long = ap length residual-is ∙ length-residues (set .q) (set .n) (integers y);
-          y-below = rw residual-is (residues-below (set .q) (set .n) (integers y) (q-some (m .good)));
+          y-below = rw residual-is (residues-below (set .q) (set .n) (integers y) (q-some (known-good known)));
           v-long = m .v-long;
         }
 
@@ -141,24 +135,49 @@ module _ {set : Numbers} {first : List ℤ} {a yr v bytes : List ℕ} (m : Commi
       commit-v =
           g
           ∙ ap (λ (r : List ℕ). joined (set .k) (productOf set a r)) residual-is
-          ∙ joined-ext (set .k) (productOf set a (residues (set .q) (set .n) (integers y))) (vRow set a y) (λ i l. product-v set (m .good) a y i)
+          ∙ joined-ext (set .k) (productOf set a (residues (set .q) (set .n) (integers y))) (vRow set a y) (λ i l. product-v set (known-good known) a y i)
           ∙ ap (λ (x : List ℤ). joined (set .k) (vRow set a x)) e
 
-      pub commit-absorbs : Absorbs set made bytes
+      pub commit-absorbs : Absorbs set made
       commit-absorbs =
           record {
-            good = m .good;
             v-long = ap length commit-v ∙ v-all-length set a (yOf set rand counter);
-            v-below = rw commit-v (v-all-below set (m .good) a (yOf set rand counter));
-            bytes-long = m .bytes-long;
+            v-below = rw commit-v (v-all-below set (known-good known) a (yOf set rand counter));
           }
 
-      pub commit-made : {highs : Highs}
-          → highs .state ≡ absorbed (fresh (set .digit) 6) (map (twos 8) (highsOf set (λ i. polynomial (set .n) i made)))
-          → highs .fit ≡ every fitsByte (highsOf set (λ i. polynomial (set .n) i made))
-          → Committed set a rand counter y made highs
-      commit-made s f = record { y-is = e; v-is = commit-v; state-is = rw highs-are at s; fit-is = rw highs-are at f }
+      pub commit-made : {highs : Highs} → Held set (highsOf set (λ i. polynomial (set .n) i made)) highs → Committed set a rand counter y made highs
+      commit-made h = record { y-is = e; v-is = commit-v; held = rw highs-are at h }
         where
           highs-are : highsOf set (λ i. polynomial (set .n) i made) ≡ highsOf set (vRow set a (yOf set rand counter))
+          unfolding highsOf
           highs-are =
-              ap (λ (xs : List ℕ). highsOf set (λ i. polynomial (set .n) i xs)) commit-v ∙ v-highs set a (yOf set rand counter)
+              joined-ext (set .k) _ _
+              (λ i l. ap (highParts set) (ap (polynomial (set .n) i) commit-v ∙ v-parts set a (yOf set rand counter) i l))
+
+-- ---- the high parts of v_1..v_k, absorbed one polynomial after another
+
+-- those of v_1..v_i
+pub record Absorbing (set : Numbers) (v : List ℕ) (highs : Highs) (i : ℕ) : Type 0 where
+  pub near : i ≤ set .k
+  pub held : Held set (joined i (λ j. highParts set (polynomial (set .n) j v))) highs
+
+pub absorbing-none : {set : Numbers} {v : List ℕ} {highs : Highs} → Held set [] highs → Absorbing set v highs 0
+unfolding joined
+absorbing-none h = record { near = zero-le; held = h }
+
+module _ {set : Numbers} {v : List ℕ} (a : Absorbs set v) {highs : Highs} {i : ℕ} (h : Absorbing set v highs i) where
+  pub absorbing-residues : i < set .k → Residues set (take (set .n * i + set .n - set .n * i) (drop (set .n * i) v))
+  absorbing-residues l =
+      rw (row-lent (set .n) i v)
+      (record {
+        long = polynomial-length (set .n) (set .k) i v (a .v-long) l;
+        below = polynomial-below (set .q) (set .n) i v (a .v-below);
+      })
+
+  pub absorbing-more : {next : Highs} → i < set .k → Adds set highs (take (set .n * i + set .n - set .n * i) (drop (set .n * i) v)) next → Absorbing set v next (i + 1)
+  unfolding joined
+  absorbing-more l m = rw add-one (record { near = l; held = held-more (h .held) (rw (row-lent (set .n) i v) at m) })
+
+  pub absorbing-all : set .k ≤ i → Held set (highsOf set (λ j. polynomial (set .n) j v)) highs
+  unfolding highsOf
+  absorbing-all l = rw (le-antisymm l (h .near)) (h .held)

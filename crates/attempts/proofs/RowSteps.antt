@@ -7,7 +7,8 @@ use lib.ListN.{length, take, drop}
 use Rattle.whole.specs.Table.{joined, joined-parts}
 use Rattle.sets.specs.declared.Numbers.{Numbers}
 use Rattle.sampling.specs.declared.drawn.DrawA.{DrawA}
-use Rattle.sampling.specs.DrawA.{StartedA, NextA, AfterA}
+use Rattle.sampling.specs.Asks.{NextA}
+use Rattle.sampling.specs.Promises.{StartedA, AfterA}
 use Rattle.sampling.specs.DrawALaws.{AtA, at-first, at-asks, at-written, at-next}
 use Rattle.sampling.specs.Streams.{allA, aOf}
 use Rattle.sampling.specs.StreamsLaws.{allA-length, aOf-length}

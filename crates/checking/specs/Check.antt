@@ -1,7 +1,6 @@
 -- Checking, Algorithm 3: z within B − S, then w_i = a_i z − t_i c, then H of the high parts against c'.
 -- Assumes nothing: these are definitions.
-use mathlib.Core.Bool.{_&&_}
-use mathlib.Core.List.{List, [], _∷_}
+use mathlib.Core.List.{List, [], _∷_, _++_}
 use Prim.Native.Nat.{ℕ, _*_}
 use lib.Dec.{eqb, leb}
 use lib.IntN.{ℤ, _-ℤ_}
@@ -33,14 +32,32 @@ checkHighs set seedA t z c′ = highsOf set (checkW set seedA t z c′)
 unfoldable pub publicG : Numbers → List ℕ → List ℕ
 publicG set public = keyDigest set (stretch 2 (set .k * tBytes set) public)
 
-unfoldable pub checkTests : Numbers → List ℕ → List ℕ → List ℕ → List Test
-checkTests set public message signature =
-    ((eqb (length public) (publicBytes set) && eqb (length signature) (signatureBytes set)) orElse 1)
-    ∷ ((marked set 1 public && marked set 3 signature) orElse 2)
-    ∷ (leb (length message) messageLimit orElse 3)
+-- ---- the tests
+
+-- those of the inputs, the message by its length
+unfoldable pub inputTests : Numbers → List ℕ → ℕ → List ℕ → List Test
+inputTests set public messageLength signature =
+    (eqb (length public) (publicBytes set) orElse 1)
+    ∷ (eqb (length signature) (signatureBytes set) orElse 1)
+    ∷ (marked set 1 public orElse 2)
+    ∷ (marked set 3 signature orElse 2)
+    ∷ (leb messageLength messageLimit orElse 3)
     ∷ (tInRange set (allT set public) orElse 5)
     ∷ (zInRange set (zOf set signature) orElse 9)
-    ∷ (every fitsByte (checkHighs set (seedAOf set public) (tOf set public) (zOf set signature) (challengeOf set signature)) orElse 10)
-    ∷ (sameBytes (challenge set (checkHighs set (seedAOf set public) (tOf set public) (zOf set signature) (challengeOf set signature)) (messageDigest set message) (publicG set public))
-    (challengeOf set signature) orElse 11)
     ∷ []
+
+-- those of the hash, over seed_a, t_1..t_k, g, G of the message, z and c'
+unfoldable pub hashTests : Numbers → List ℕ → (ℕ → List ℕ) → List ℕ → List ℕ → List ℤ → List ℕ → List Test
+hashTests set seedA t g digest z c′ =
+    (every fitsByte (checkHighs set seedA t z c′) orElse 10)
+    ∷ (sameBytes (challenge set (checkHighs set seedA t z c′) digest g) c′ orElse 11)
+    ∷ []
+
+-- checking a message, by its length and G of it
+unfoldable pub digestTests : Numbers → List ℕ → ℕ → List ℕ → List ℕ → List Test
+digestTests set public messageLength digest signature =
+    inputTests set public messageLength signature
+    ++ hashTests set (seedAOf set public) (tOf set public) (publicG set public) digest (zOf set signature) (challengeOf set signature)
+
+unfoldable pub checkTests : Numbers → List ℕ → List ℕ → List ℕ → List Test
+checkTests set public message signature = digestTests set public (length message) (messageDigest set message) signature

@@ -1,4 +1,3 @@
-pub mod Answers
 pub mod Check
 pub mod Steps
 pub mod Asks

@@ -1,33 +1,37 @@
-// The hash of checking: w_i = a_i z − t_i c for one i after another, its high parts absorbed, and the bytes of H compared with c'.
-use crate::CheckAnswer;
+// The core of checking: w_i = a_i z − t_i c for one t_i after another, wherever it comes from, the high parts absorbed, and H against c'.
+use answers::Answer;
+use highs::Highs;
 use sampling::drawn::DrawA;
+use sets::DIGEST_BYTES;
 use sets::Numbers;
-use shake::Sponge;
+use sets::SEED_BYTES;
+use sets::SetI;
 ghost use mathlib.Core.Path.{_≡_};
 ghost use Rattle.whole.specs.Every.{sameBytes};
-ghost use Rattle.answers.specs.Tests.{answer};
-ghost use Rattle.shake.specs.Sponge.{absorbed, squeezed};
+ghost use Rattle.answers.specs.Answers.{numberOf};
 ghost use Rattle.sets.specs.Good.{Good};
-ghost use Rattle.records.specs.Public.{tOf};
-ghost use Rattle.checking.specs.Answers.{checkAnswerNumber};
-ghost use Rattle.checking.specs.Asks.{ForW, ForT, ForEachT};
-ghost use Rattle.checking.specs.Steps.{wFrom, Begun, OneMore, Reached, hashTests};
+ghost use Rattle.sets.specs.Known.{Known};
+ghost use Rattle.sets.specs.SetI.{setI};
+ghost use Rattle.checking.specs.Asks.{ForW, ForT, ForTIn};
+ghost use Rattle.checking.specs.Steps.{wFrom, Begun, OneMore, Judged};
 
-// Whether a and b hold the same bytes.
-fn same_bytes(a: &[u8], b: &[u8]) -> bool
-    ensures { λ r. ⌜ r ≡ sameBytes (now (a .entry)) (now (b .entry)) ⌝ }
+// The receiver on its way through t_1..t_k.
+pub struct Walk {
+    // stream 1, which gives a_(i + 1) next
+    pub draw: DrawA,
+    // the high parts of w_1..w_i
+    pub highs: Highs,
+}
+
+// Before the first t_i.
+pub fn begin(set: Numbers, seed_a: &[u8]) -> Walk
+    requires { ⌜ Good set ⌝ }
+    ensures { λ r. ⌜ Begun set (now («seed_a» .entry)) r ⌝ }
 {
-    if a.len() != b.len() {
-        return false;
+    Walk {
+        draw: sampling::drawn::start_a(set, seed_a),
+        highs: highs::no_highs(set),
     }
-    let mut at = 0;
-    while at < a.len() {
-        if a[at] != b[at] {
-            return false;
-        }
-        at += 1;
-    }
-    true
 }
 
 // w = a z − t c modulo q, where zr holds z modulo q. tc takes t c.
@@ -49,33 +53,10 @@ fn one_w(
     ring::sums::subtract(w, tc, set.q);
 }
 
-// The high parts of w_1..w_i, on the way to c'.
-pub struct Highs {
-    // stream 1, which gives a_(i + 1) next
-    pub draw: DrawA,
-    // the sponge of H, which has absorbed them, one signed byte each
-    pub state: Sponge,
-    // whether each of them fits its byte
-    pub fits: bool,
-}
-
-// None of them yet.
-fn no_highs(set: Numbers, seed_a: &[u8]) -> Highs
-    requires { ⌜ Good set ⌝ }
-    ensures { λ r. ⌜ Begun set (now («seed_a» .entry)) r ⌝ }
-{
-    Highs {
-        draw: sampling::drawn::start_a(set, seed_a),
-        state: sets::fresh_state(set.digit, 6),
-        fits: true,
-    }
-}
-
-// Those of the next w as well, where t holds its t_i and zr holds z modulo q. a, w and tc take its a_i, itself and t_i c, and
-// bytes its high parts.
-fn one_t(
+// The next t_i: t holds it, and zr holds z modulo q. a, w and tc take its a_i, its w_i and t_i c.
+fn add_t_in(
     set: Numbers,
-    highs: Highs,
+    walk: Walk,
     t: &[u32],
     zr: &[u32],
     positions: &[u16],
@@ -83,65 +64,106 @@ fn one_t(
     a: &mut [u32],
     w: &mut [u32],
     tc: &mut [u32],
-    bytes: &mut [u8],
-) -> Highs
-    requires { ⌜ ForT set (highs .draw) (now t) (now zr) (now positions) (now signs) (now a) (now w) (now tc) (now bytes) ⌝ }
-    ensures { λ r. ⌜ OneMore set highs (now (t .entry)) (now (zr .entry)) (now (positions .entry)) (now (signs .entry)) r ⌝ }
+) -> Walk
+    requires { ⌜ Known set ⌝ }
+    requires { ⌜ ForTIn set (walk .draw) (now t) (now zr) (now positions) (now signs) (now a) (now w) (now tc) ⌝ }
+    ensures { λ r. ⌜ OneMore set walk (now (t .entry)) (now (zr .entry)) (now (positions .entry)) (now (signs .entry)) r ⌝ }
 {
-    let before = highs.draw;
-    let state = highs.state;
+    let before = walk.draw;
+    let highs = walk.highs;
     let draw = sampling::drawn::next_a(set, before, a);
     one_w(set, a, t, zr, positions, signs, w, tc);
-    let fits = rounding::polynomial::high_bytes(w, set.q, set.d, bytes);
-    Highs {
+    Walk {
         draw,
-        state: state.absorb(bytes),
-        fits: highs.fits & fits,
+        highs: highs::add_highs(set, highs, w),
     }
 }
 
-// Those of every w, where each t_i is read from its own stretch of the public record. t takes one t_i at a time.
-pub fn each_t(
+// The same in set I: makes the scratch.
+fn add_t_i(
     set: Numbers,
-    seed_a: &[u8],
-    public: &[u8],
+    walk: Walk,
+    t: &[u32],
     zr: &[u32],
     positions: &[u16],
     signs: &[i8],
-    t: &mut [u32],
-    a: &mut [u32],
-    w: &mut [u32],
-    tc: &mut [u32],
-    bytes: &mut [u8],
-) -> Highs
-    requires { ⌜ ForEachT set (now public) (now zr) (now positions) (now signs) (now t) (now a) (now w) (now tc) (now bytes) ⌝ }
-    ensures { λ r. ⌜ Reached set (now («seed_a» .entry)) (tOf set (now (public .entry))) (now (zr .entry)) (now (positions .entry)) (now (signs .entry)) (set .k) r ⌝ }
+) -> Walk
+    requires { ⌜ set ≡ setI ⌝ }
+    requires { ⌜ ForT set (walk .draw) (now t) (now zr) (now positions) (now signs) ⌝ }
+    ensures { λ r. ⌜ OneMore set walk (now (t .entry)) (now (zr .entry)) (now (positions .entry)) (now (signs .entry)) r ⌝ }
 {
-    let k = set.k;
-    let mut highs = no_highs(set, seed_a);
-    let mut i = 0;
-    while i < k {
-        records::public::unpack_t(set, public, i, t);
-        let next = one_t(set, highs, t, zr, positions, signs, a, w, tc, bytes);
-        highs = next;
-        i += 1;
-    }
-    highs
+    let mut a = [0u32; SetI::N];
+    let mut w = [0u32; SetI::N];
+    let mut tc = [0u32; SetI::N];
+    add_t_in(
+        set,
+        walk,
+        t,
+        zr,
+        positions,
+        signs,
+        &mut a,
+        &mut w,
+        &mut tc,
+    )
 }
 
-// The last two tests: every high part fits its byte, and H of them, of G of the message and of g is c'.
-pub fn judged(highs: Highs, digest: &[u8], g: &[u8], c: &[u8]) -> CheckAnswer
-    ensures { λ r. ⌜ checkAnswerNumber r ≡ answer (hashTests (highs .fits) (squeezed 32 (absorbed (absorbed (highs .state) (now (digest .entry))) (now (g .entry)))) (now (c .entry))) ⌝ }
+// The same in every set that there is.
+pub fn add_t(
+    set: Numbers,
+    walk: Walk,
+    t: &[u32],
+    zr: &[u32],
+    positions: &[u16],
+    signs: &[i8],
+) -> Walk
+    requires { ⌜ Known set ⌝ }
+    requires { ⌜ ForT set (walk .draw) (now t) (now zr) (now positions) (now signs) ⌝ }
+    ensures { λ r. ⌜ OneMore set walk (now (t .entry)) (now (zr .entry)) (now (positions .entry)) (now (signs .entry)) r ⌝ }
 {
-    if !highs.fits {
-        return CheckAnswer::High;
+    let digit = set.digit;
+    match digit {
+        1 => add_t_i(set, walk, t, zr, positions, signs),
+        _ => walk,
     }
-    let state = highs.state;
-    let mut found = [0u8; 32];
-    sampling::digests::challenge_of(state, digest, g, &mut found);
-    if same_bytes(&found, c) {
-        CheckAnswer::Accepted
-    } else {
-        CheckAnswer::Hash
+}
+
+// Whether a and b hold the same bytes.
+fn same_bytes(a: &[u8], b: &[u8]) -> bool
+    ensures { λ r. ⌜ r ≡ sameBytes (now (a .entry)) (now (b .entry)) ⌝ }
+{
+    if a.len() != b.len() {
+        return false;
     }
+    let mut at = 0;
+    while at < a.len() {
+        if a[at] != b[at] {
+            return false;
+        }
+        at += 1;
+    }
+    true
+}
+
+// The tests 10 and 11: every high part fits its byte, and H of them, of G of the message and of g is c'.
+pub fn judge(
+    set: Numbers,
+    highs: Highs,
+    digest: &[u8; DIGEST_BYTES],
+    g: &[u8; DIGEST_BYTES],
+    c: &[u8],
+) -> Answer
+    requires { ⌜ Good set ⌝ }
+    ensures { λ r. ⌜ Judged set highs (now (digest .entry)) (now (g .entry)) (now (c .entry)) (numberOf r) ⌝ }
+{
+    let fit = highs.fit;
+    if !fit {
+        return Answer::High;
+    }
+    let mut found = [0u8; SEED_BYTES];
+    highs::hash(set, highs, digest, g, &mut found);
+    if !same_bytes(&found, c) {
+        return Answer::Hash;
+    }
+    Answer::Done
 }

@@ -1,15 +1,15 @@
 -- The high parts on the way to c': what was absorbed of them, one polynomial more, and c' of them.
 -- Assumes nothing: these are definitions.
 use mathlib.Core.Path.{_≡_}
-use mathlib.Core.List.{List, _++_, map}
+use mathlib.Core.Bool.{_&&_}
+use mathlib.Core.List.{List, map}
 use Prim.Native.Nat.{ℕ}
 use lib.IntN.{ℤ, pos}
-use lib.ListN.{length}
 use Rattle.whole.specs.Every.{every}
 use Rattle.whole.specs.Twos.{twos}
 use Rattle.rounding.specs.Parts.{high}
 use Rattle.rounding.specs.Tests.{fitsByte}
-use Rattle.shake.specs.Sponge.{absorbed}
+use Rattle.shake.specs.Sponge.{absorbed, squeezed}
 use Rattle.sets.specs.declared.Numbers.{Numbers}
 use Rattle.sets.specs.Limits.{seedBytes}
 use Rattle.sets.specs.Marks.{fresh}
@@ -27,9 +27,10 @@ pub record Held (set : Numbers) (parts : List ℤ) (r : Highs) : Type 0 where
 
 -- those of one polynomial more
 pub record Adds (set : Numbers) (before : Highs) (v : List ℕ) (r : Highs) : Type 0 where
-  pub held : (parts : List ℤ) → Held set parts before → Held set (parts ++ highParts set v) r
+  pub state-is : r .state ≡ absorbed (before .state) (map (twos 8) (highParts set v))
+  pub fit-is : r .fit ≡ (before .fit && every fitsByte (highParts set v))
 
 -- c' of them, of G of the message and of g
 pub record Hashes (set : Numbers) (highs : Highs) (digest g c′ : List ℕ) : Type 0 where
-  pub long : length c′ ≡ seedBytes
+  pub bytes : c′ ≡ squeezed seedBytes (absorbed (absorbed (highs .state) digest) g)
   pub is : (parts : List ℤ) → Held set parts highs → c′ ≡ challenge set parts digest g

@@ -1,2 +1,3 @@
 pub mod Highs
+pub mod HighsLaws
 pub mod Asks

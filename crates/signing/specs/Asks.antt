@@ -1,141 +1,14 @@
--- What the code asks of its arguments, as named records. They are conditions on lengths and sizes; no caller has to believe them,
--- each shows them.
--- Assumes nothing: these are definitions.
+-- What the search asks of its arguments, as named records. Assumes nothing: these are definitions.
 use mathlib.Core.Path.{_≡_}
 use mathlib.Core.List.{List}
-use Prim.Native.Nat.{ℕ, _*_, _≤_}
-use lib.IntN.{ℤ}
+use Prim.Native.Nat.{ℕ, _≤_}
 use lib.ListN.{length}
-use Rattle.whole.specs.Below.{Below, Within}
-use Rattle.ring.specs.Sparse.{Signed}
 use Rattle.sets.specs.declared.Numbers.{Numbers}
-use Rattle.sets.specs.Good.{Good}
 use Rattle.sets.specs.Limits.{budgetLimit}
-use Rattle.sets.specs.SetI.{setI}
-use Rattle.sampling.specs.Streams.{allA}
-use Rattle.records.specs.Layout.{secretBytes, signatureBytes}
-use Rattle.records.specs.Secret.{secretSeedA}
+use Rattle.records.specs.Layout.{signatureBytes}
+use Rattle.attempts.specs.Asks.{Whole, Attempts}
 
--- the sets that there are
-pub data Known : Numbers → Type 0 where
-  known-i : {set : Numbers} → set ≡ setI → Known set
-
--- a set, and a secret record of the right length
-pub record Whole (set : Numbers) (secret : List ℕ) : Type 0 where
-  pub good : Good set
-  pub long : length secret ≡ secretBytes set
-
--- a set, and the places for a_1..a_k in a row
-pub record DrawsRow (set : Numbers) (a : List ℕ) : Type 0 where
-  pub good : Good set
-  pub a-long : length a ≡ set .k * set .n
-
--- the same with the seed_a of a secret record
-pub record DrawsKey (set : Numbers) (secret a : List ℕ) : Type 0 where
-  pub whole : Whole set secret
-  pub a-long : length a ≡ set .k * set .n
-
--- the k products v_1..v_k: a_1..a_k, y's residues, and the places for the products
-pub record Multiplies (set : Numbers) (a yr v : List ℕ) : Type 0 where
-  pub good : Good set
-  pub a-long : length a ≡ set .k * set .n
-  pub a-below : Below (set .q) a
-  pub y-long : length yr ≡ set .n
-  pub y-below : Below (set .q) yr
-  pub v-long : length v ≡ set .k * set .n
-
--- the high parts of v_1..v_k: the place for the bytes of one of them
-pub record Absorbs (set : Numbers) (v bytes : List ℕ) : Type 0 where
-  pub good : Good set
-  pub v-long : length v ≡ set .k * set .n
-  pub v-below : Below (set .q) v
-  pub bytes-long : length bytes ≡ set .n
-
--- c, as h positions below n with their signs
-pub record Terms (set : Numbers) (ps : List ℕ) (ss : List ℤ) : Type 0 where
-  pub signed : Signed (set .n) ps ss
-  pub few : length ps ≡ set .h
-
--- z: s, y, c and the place for z
-pub record MakesZ (set : Numbers) (s : List ℕ) (y : List ℤ) (ps : List ℕ) (ss : List ℤ) (z : List ℤ) : Type 0 where
-  pub good : Good set
-  pub s-long : length s ≡ set .n
-  pub y-long : length y ≡ set .n
-  pub y-within : Within (set .b) y
-  pub terms : Terms set ps ss
-  pub z-long : length z ≡ set .n
-
--- the tests on one w: one e and one v, c and the place for e c
-pub record TestsOneW (set : Numbers) (e v ps : List ℕ) (ss ec : List ℤ) : Type 0 where
-  pub good : Good set
-  pub e-long : length e ≡ set .n
-  pub v-long : length v ≡ set .n
-  pub v-below : Below (set .q) v
-  pub terms : Terms set ps ss
-  pub ec-long : length ec ≡ set .n
-
--- the tests on w_1..w_k: e_1..e_k, v_1..v_k, c and the place for one e_i c
-pub record TestsW (set : Numbers) (e v ps : List ℕ) (ss ec : List ℤ) : Type 0 where
-  pub good : Good set
-  pub e-long : length e ≡ set .k * set .n
-  pub v-long : length v ≡ set .k * set .n
-  pub v-below : Below (set .q) v
-  pub terms : Terms set ps ss
-  pub ec-long : length ec ≡ set .n
-
--- what an attempt makes before c' is known: a_1..a_k, and the places for y, its residues, v_1..v_k and the bytes of one v_i
-pub record Commits (set : Numbers) (a : List ℕ) (y : List ℤ) (yr v bytes : List ℕ) : Type 0 where
-  pub good : Good set
-  pub a-long : length a ≡ set .k * set .n
-  pub a-below : Below (set .q) a
-  pub y-long : length y ≡ set .n
-  pub yr-long : length yr ≡ set .n
-  pub v-long : length v ≡ set .k * set .n
-  pub bytes-long : length bytes ≡ set .n
-
--- what an attempt does once c' is known: s, e_1..e_k, y, v_1..v_k, and the places for c and z
-pub record Responds (set : Numbers) (s e : List ℕ) (y : List ℤ) (v ps : List ℕ) (ss z : List ℤ) : Type 0 where
-  pub good : Good set
-  pub s-long : length s ≡ set .n
-  pub e-long : length e ≡ set .k * set .n
-  pub y-long : length y ≡ set .n
-  pub y-within : Within (set .b) y
-  pub v-long : length v ≡ set .k * set .n
-  pub v-below : Below (set .q) v
-  pub ps-long : length ps ≡ set .h
-  pub ss-long : length ss ≡ set .h
-  pub z-long : length z ≡ set .n
-
--- the same with the s and e_1..e_k of a secret record
-pub record RespondsKey (set : Numbers) (secret : List ℕ) (y : List ℤ) (v : List ℕ) (z : List ℤ) : Type 0 where
-  pub whole : Whole set secret
-  pub y-long : length y ≡ set .n
-  pub y-within : Within (set .b) y
-  pub v-long : length v ≡ set .k * set .n
-  pub v-below : Below (set .q) v
-  pub z-long : length z ≡ set .n
-
--- and the places for the signature record and for the bits of z
-pub record Concludes (set : Numbers) (secret signature : List ℕ) (y : List ℤ) (yr v : List ℕ) (z : List ℤ) : Type 0 where
-  pub responds : RespondsKey set secret y v z
-  pub yr-long : length yr ≡ set .n
-  pub signature-long : length signature ≡ signatureBytes set
-
--- every place that an attempt works in
-pub record Places (set : Numbers) (y : List ℤ) (yr v bytes : List ℕ) (z : List ℤ) : Type 0 where
-  pub y-long : length y ≡ set .n
-  pub yr-long : length yr ≡ set .n
-  pub v-long : length v ≡ set .k * set .n
-  pub bytes-long : length bytes ≡ set .n
-  pub z-long : length z ≡ set .n
-
--- an attempt: a secret record, its a_1..a_k, and the place for the signature record
-pub record Attempts (set : Numbers) (secret a signature : List ℕ) : Type 0 where
-  pub whole : Whole set secret
-  pub a-is : a ≡ allA set (secretSeedA set secret)
-  pub signature-long : length signature ≡ signatureBytes set
-
--- a search
+-- a search: what an attempt asks, and a budget of at most 1,024
 pub record Searches (set : Numbers) (secret a : List ℕ) (budget : ℕ) (signature : List ℕ) : Type 0 where
   pub attempts : Attempts set secret a signature
   pub few : budget ≤ budgetLimit
@@ -145,14 +18,3 @@ pub record SearchesKey (set : Numbers) (secret : List ℕ) (budget : ℕ) (signa
   pub whole : Whole set secret
   pub few : budget ≤ budgetLimit
   pub signature-long : length signature ≡ signatureBytes set
-
--- the tests of s and e_1..e_k
-pub record SecretsLent (set : Numbers) (e : List ℕ) : Type 0 where
-  pub good : Good set
-  pub e-long : length e ≡ set .k * set .n
-
--- and h places for the largest
-pub record TestsSecrets (set : Numbers) (e places : List ℕ) : Type 0 where
-  pub good : Good set
-  pub e-long : length e ≡ set .k * set .n
-  pub places-long : length places ≡ set .h

@@ -1,9 +1,5 @@
-pub mod Attempt
-pub mod AttemptLaws
 pub mod Search
 pub mod SearchLaws
 pub mod Sign
-pub mod Parts
+pub mod Promises
 pub mod Asks
-pub mod Answers
-pub mod Tries

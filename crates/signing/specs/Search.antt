@@ -3,7 +3,7 @@
 use mathlib.Core.List.{List}
 use Prim.Native.Nat.{ℕ, zero, suc}
 use lib.IntN.{ℤ}
-use Rattle.signing.specs.Attempt.{Outcome, passes, fails, overflows}
+use Rattle.attempts.specs.Attempt.{Outcome, passes, fails, overflows}
 
 pub data Found : Type 0 where
   -- the counter of the attempt that passed, with its z and c'

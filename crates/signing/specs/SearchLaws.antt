@@ -7,7 +7,7 @@ use Prim.Native.Nat.{ℕ, zero, suc, _+_, _≤_, _<_}
 use native.Mathlib.Omega.{arith}
 use lib.IntN.{ℤ}
 use Rattle.whole.specs.Int.{lt-or-le}
-use Rattle.signing.specs.Attempt.{Outcome, passes, fails, overflows}
+use Rattle.attempts.specs.Attempt.{Outcome, passes, fails, overflows}
 use Rattle.signing.specs.Search.{found, none, overflow, next, searchFrom}
 
 -- the search stopped at `counter`: the attempts from `from` up to it fail, and it is one of `left` counters from `from` on

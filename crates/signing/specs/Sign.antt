@@ -1,37 +1,39 @@
 -- Signing: the tests of its inputs, then the search. What comes back: the number, the counter, and the signature record.
 -- Assumes nothing: these are definitions.
-use mathlib.Core.Bool.{_&&_}
-use mathlib.Core.List.{List, [], _∷_}
+use mathlib.Core.List.{List, _∷_}
 use Prim.Native.Nat.{ℕ, zero, suc}
 use lib.Dec.{eqb, leb}
 use lib.ListN.{length}
 use Rattle.answers.specs.Tests.{Test, _orElse_}
-use Rattle.ring.specs.Largest.{sumPasses}
 use Rattle.sets.specs.declared.Numbers.{Numbers}
 use Rattle.sets.specs.Limits.{messageLimit, budgetLimit, seedBytes}
 use Rattle.sampling.specs.Streams.{messageDigest, randOf}
 use Rattle.records.specs.Layout.{marked, secretBytes, signatureBytes}
-use Rattle.records.specs.Secret.{sOf, allE, secretSeedA, secretSeedY, secretG, inByteRange}
+use Rattle.records.specs.Secret.{sOf, allE, secretSeedY}
 use Rattle.signatures.specs.Signature.{signatureRecord}
-use Rattle.keys.specs.Key.{eachEPasses}
-use Rattle.signing.specs.Attempt.{Key, attempt}
+use Rattle.keys.specs.Key.{secretsTests}
+use Rattle.attempts.specs.Attempt.{keyOf, attempt}
 use Rattle.signing.specs.Search.{Found, found, none, overflow, search}
 
--- the key that a secret record holds
-unfoldable pub keyOf : Numbers → List ℕ → Key
-keyOf set secret =
-    record { s = sOf set secret; e = allE set secret; seedA = secretSeedA set secret; g = secretG set secret }
+-- ---- the tests
 
-unfoldable pub signTests : Numbers → List ℕ → ℕ → ℕ → ℕ → ℕ → List Test
-signTests set secret messageLength rLength budget signatureLength =
-    ((eqb (length secret) (secretBytes set) && (eqb rLength seedBytes && eqb signatureLength (signatureBytes set))) orElse 1)
+-- those of beginning: the secret record, the message and r by their lengths, the budget, s and e_1..e_k
+unfoldable pub beginTests : Numbers → List ℕ → ℕ → ℕ → ℕ → List Test
+beginTests set secret messageLength rLength budget =
+    (eqb (length secret) (secretBytes set) orElse 1)
+    ∷ (eqb rLength seedBytes orElse 1)
     ∷ (marked set 2 secret orElse 2)
     ∷ (leb messageLength messageLimit orElse 3)
-    ∷ ((leb 1 budget && leb budget budgetLimit) orElse 4)
-    ∷ ((inByteRange (sOf set secret) && inByteRange (allE set secret)) orElse 5)
-    ∷ (sumPasses (set .h) (set .s) (sOf set secret) orElse 6)
-    ∷ (eachEPasses set (allE set secret) orElse 7)
-    ∷ []
+    ∷ (leb 1 budget orElse 4)
+    ∷ (leb budget budgetLimit orElse 4)
+    ∷ secretsTests set (sOf set secret) (allE set secret)
+
+-- and the output's length before them
+unfoldable pub signTests : Numbers → List ℕ → ℕ → ℕ → ℕ → ℕ → List Test
+signTests set secret messageLength rLength budget signatureLength =
+    (eqb signatureLength (signatureBytes set) orElse 1) ∷ beginTests set secret messageLength rLength budget
+
+-- ---- what comes back
 
 -- the search that signing makes
 unfoldable pub signSearch : Numbers → List ℕ → List ℕ → List ℕ → ℕ → Found

@@ -1,75 +1,77 @@
 // The search for the smallest counter whose attempt passes.
-use crate::attempt::Tried;
-use crate::attempt::attempt;
-use crate::row::draw_key;
+use crate::Signed;
+use answers::Answer;
+use attempts::Tried;
+use sets::DIGEST_BYTES;
 use sets::Numbers;
+use sets::SEED_BYTES;
 use sets::SetI;
 ghost use mathlib.Core.Path.{_≡_};
+ghost use Rattle.answers.specs.Answers.{numberOf};
+ghost use Rattle.sets.specs.Known.{Known};
 ghost use Rattle.sets.specs.SetI.{setI};
-ghost use Rattle.signing.specs.Attempt.{attempt};
+ghost use Rattle.attempts.specs.Attempt.{keyOf, attempt};
 ghost use Rattle.signing.specs.Search.{search};
-ghost use Rattle.signing.specs.Sign.{keyOf};
-ghost use Rattle.signing.specs.Tries.{Finds};
-ghost use Rattle.signing.specs.Asks.{Searches, SearchesKey, Known};
-
-// What a search comes to.
-pub enum Searched {
-    // the smallest counter that passes: its signature record is written
-    Found(u16),
-    // no counter up to the budget passes
-    Nothing,
-    // a high part did not fit a signed byte
-    Overflow,
-}
+ghost use Rattle.signing.specs.Promises.{Gives};
+ghost use Rattle.signing.specs.Asks.{Searches, SearchesKey};
 
 // Tries the counters from 1 to the budget, one after another. a holds a_1..a_k.
 fn search(
     set: Numbers,
     secret: &[u8],
     a: &[u32],
-    digest: &[u8; 40],
-    rand: &[u8; 32],
+    digest: &[u8; DIGEST_BYTES],
+    rand: &[u8; SEED_BYTES],
     budget: u32,
     signature: &mut [u8],
-) -> Searched
+) -> Signed
     requires { ⌜ Known set ⌝ }
     requires { ⌜ Searches set (now secret) (now a) budget (now signature) ⌝ }
-    ensures { λ r. ⌜ Finds set (search (attempt set (keyOf set (now (secret .entry))) (now (digest .entry)) (now (rand .entry))) budget) (now (signature .entry)) (now (signature .exit)) r ⌝ }
+    ensures { λ r. ⌜ Gives set 0 (search (attempt set (keyOf set (now (secret .entry))) (now (digest .entry)) (now (rand .entry))) budget) (now (signature .entry)) (now (signature .exit)) (numberOf (r .answer)) (r .counter) ⌝ }
 {
     let mut counter: u32 = 1;
     while counter <= budget {
         let number = counter as u16;
-        let tried = attempt(set, secret, a, digest, rand, number, signature);
+        let tried = attempts::attempt(set, secret, a, digest, rand, number, signature);
         match tried {
             Tried::Passes => {
-                return Searched::Found(number);
+                return Signed {
+                    answer: Answer::Done,
+                    counter: number,
+                };
             }
             Tried::Overflows => {
-                return Searched::Overflow;
+                return Signed {
+                    answer: Answer::High,
+                    counter: 0,
+                };
             }
             Tried::Fails => {
                 counter += 1;
             }
         }
     }
-    Searched::Nothing
+    Signed {
+        answer: Answer::None,
+        counter: 0,
+    }
 }
 
 // The same in set I: a_1..a_k are drawn once.
 fn search_i(
     set: Numbers,
     secret: &[u8],
-    digest: &[u8; 40],
-    rand: &[u8; 32],
+    digest: &[u8; DIGEST_BYTES],
+    rand: &[u8; SEED_BYTES],
     budget: u32,
     signature: &mut [u8],
-) -> Searched
+) -> Signed
     requires { ⌜ set ≡ setI ⌝ }
     requires { ⌜ SearchesKey set (now secret) budget (now signature) ⌝ }
-    ensures { λ r. ⌜ Finds set (search (attempt set (keyOf set (now (secret .entry))) (now (digest .entry)) (now (rand .entry))) budget) (now (signature .entry)) (now (signature .exit)) r ⌝ }
+    ensures { λ r. ⌜ Gives set 0 (search (attempt set (keyOf set (now (secret .entry))) (now (digest .entry)) (now (rand .entry))) budget) (now (signature .entry)) (now (signature .exit)) (numberOf (r .answer)) (r .counter) ⌝ }
 {
     let mut a = [0u32; SetI::K * SetI::N];
-    draw_key(set, secret, &mut a);
+    attempts::row::draw_key(set, secret, &mut a);
     search(set, secret, &a, digest, rand, budget, signature)
 }
 
@@ -77,18 +79,21 @@ fn search_i(
 pub fn search_key(
     set: Numbers,
     secret: &[u8],
-    digest: &[u8; 40],
-    rand: &[u8; 32],
+    digest: &[u8; DIGEST_BYTES],
+    rand: &[u8; SEED_BYTES],
     budget: u32,
     signature: &mut [u8],
-) -> Searched
+) -> Signed
     requires { ⌜ Known set ⌝ }
     requires { ⌜ SearchesKey set (now secret) budget (now signature) ⌝ }
-    ensures { λ r. ⌜ Finds set (search (attempt set (keyOf set (now (secret .entry))) (now (digest .entry)) (now (rand .entry))) budget) (now (signature .entry)) (now (signature .exit)) r ⌝ }
+    ensures { λ r. ⌜ Gives set 0 (search (attempt set (keyOf set (now (secret .entry))) (now (digest .entry)) (now (rand .entry))) budget) (now (signature .entry)) (now (signature .exit)) (numberOf (r .answer)) (r .counter) ⌝ }
 {
     let digit = set.digit;
     match digit {
         1 => search_i(set, secret, digest, rand, budget, signature),
-        _ => Searched::Nothing,
+        _ => Signed {
+            answer: Answer::None,
+            counter: 0,
+        },
     }
 }

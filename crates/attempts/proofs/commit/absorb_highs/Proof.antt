@@ -1,4 +1,4 @@
--- `attempts::absorb_highs` meets its contract. The loop's invariant: the high parts of v_1..v_i are absorbed, and `fit` says
+-- `attempts::commit::absorb_highs` meets its contract. The loop's invariant: the high parts of v_1..v_i are absorbed, and `fit` says
 -- whether those fit. The measure is the number of those left. Assumes nothing.
 use mathlib.Core.Path.{sym, _∙_}
 use Prim.Native.Nat.{_-_}
@@ -7,8 +7,8 @@ use borrow.Author.Needs.{needs}
 use Rattle.sets.specs.GoodLaws.{row-inside}
 use Rattle.whole.specs.Rows.{row-fits}
 use Rattle.attempts.proofs.HighSteps.{Absorbing, absorbing-none, absorbing-asks, absorbing-more, absorbing-all}
-use Rattle.attempts.proofs.absorb_highs.Statement.{statement}
-use Rattle.attempts.proofs.absorb_highs.Tie as tie
+use Rattle.attempts.proofs.commit.absorb_highs.Statement.{statement}
+use Rattle.attempts.proofs.commit.absorb_highs.Tie as tie
 
 abbrev Inv-loop : tie.InvT-loop
 Inv-loop set v bytes₀ n k state₀ fit₀ i₀ bytes state fit i = Absorbing set v bytes state fit i

@@ -1,8 +1,8 @@
--- `attempts::commit` meets its contract. Assumes nothing.
+-- `attempts::commit::commit` meets its contract. Assumes nothing.
 use Rattle.attempts.proofs.ProductSteps.{commit-small, commit-multiplies, commit-absorbs, commit-made}
 use borrow.Author.Needs.{needs}
-use Rattle.attempts.proofs.commit.Statement.{statement}
-use Rattle.attempts.proofs.commit.Tie as tie
+use Rattle.attempts.proofs.commit.commit.Statement.{statement}
+use Rattle.attempts.proofs.commit.commit.Tie as tie
 
 draw-y-requires : tie.Need-draw-y-requires
 draw-y-requires c κs = search needs

@@ -1,12 +1,12 @@
--- `attempts::products` meets its contract. The loop's invariant: v_1..v_i are made. The measure is the number of those left. Assumes nothing.
+-- `attempts::commit::products` meets its contract. The loop's invariant: v_1..v_i are made. The measure is the number of those left. Assumes nothing.
 use borrow.Author.Needs.{needs}
 use Prim.Native.Nat.{_-_}
 use native.Mathlib.Omega.{arith}
 use Rattle.sets.specs.GoodLaws.{row-inside}
 use Rattle.whole.specs.Rows.{row-fits}
 use Rattle.attempts.proofs.ProductSteps.{Multiplying, multiplying-none, multiplying-fits, multiplying-factors, multiplying-more, multiplying-length, multiplying-all}
-use Rattle.attempts.proofs.products.Statement.{statement}
-use Rattle.attempts.proofs.products.Tie as tie
+use Rattle.attempts.proofs.commit.products.Statement.{statement}
+use Rattle.attempts.proofs.commit.products.Tie as tie
 
 abbrev Inv-loop : tie.InvT-loop
 Inv-loop set a yr v₀ n k i₀ v i = Multiplying set a yr v₀ v i

@@ -1,10 +1,10 @@
--- `attempts::make_z` meets its contract. Assumes nothing.
+-- `attempts::respond::make_z` meets its contract. Assumes nothing.
 use Prim.Native.Nat.{ℕ, _^_, _<_}
 use lib.ListN.{getD}
 use Rattle.attempts.proofs.TestSteps.{z-product, z-summands, z-is}
 use borrow.Author.Needs.{needs}
-use Rattle.attempts.proofs.make_z.Statement.{statement}
-use Rattle.attempts.proofs.make_z.Tie as tie
+use Rattle.attempts.proofs.respond.make_z.Statement.{statement}
+use Rattle.attempts.proofs.respond.make_z.Tie as tie
 
 -- s's bytes are bytes
 bytes : (c : tie.After-shared-slice-known) (i : ℕ) → getD (c .before .args .s .now) i 0 < 2 ^ 8

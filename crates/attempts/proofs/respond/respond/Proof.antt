@@ -1,11 +1,11 @@
--- `attempts::respond` meets its contract. Assumes nothing.
+-- `attempts::respond::respond` meets its contract. Assumes nothing.
 use mathlib.Core.Path.{sym}
 use native.Mathlib.Omega.{arith}
 use lib.Seq.{length-take-le}
 use Rattle.attempts.proofs.AttemptSteps.{key-responds, key-responded}
 use borrow.Author.Needs.{needs}
-use Rattle.attempts.proofs.respond.Statement.{statement}
-use Rattle.attempts.proofs.respond.Tie as tie
+use Rattle.attempts.proofs.respond.respond.Statement.{statement}
+use Rattle.attempts.proofs.respond.respond.Tie as tie
 
 e-start-requires : tie.Need-e-start-requires
 e-start-requires c κs = search needs

@@ -1,9 +1,9 @@
--- `attempts::respond_in` meets its contract. Assumes nothing.
+-- `attempts::respond::respond_in` meets its contract. Assumes nothing.
 use borrow.Author.Tests.{not-true, not-false}
 use Rattle.attempts.proofs.AttemptSteps.{respond-makes, respond-outside, respond-inside, respond-tests}
 use borrow.Author.Needs.{needs}
-use Rattle.attempts.proofs.respond_in.Statement.{statement}
-use Rattle.attempts.proofs.respond_in.Tie as tie
+use Rattle.attempts.proofs.respond.respond_in.Statement.{statement}
+use Rattle.attempts.proofs.respond.respond_in.Tie as tie
 
 -- ---- the places that later ones lead back to
 

@@ -1,10 +1,10 @@
--- `attempts::w_test` meets its contract. Assumes nothing.
+-- `attempts::respond::w_test` meets its contract. Assumes nothing.
 use Prim.Native.Nat.{ℕ, _^_, _<_}
 use lib.ListN.{getD}
 use Rattle.attempts.proofs.TestSteps.{w-product, w-small, w-low, w-sized, w-both, w-fails}
 use borrow.Author.Needs.{needs}
-use Rattle.attempts.proofs.w_test.Statement.{statement}
-use Rattle.attempts.proofs.w_test.Tie as tie
+use Rattle.attempts.proofs.respond.w_test.Statement.{statement}
+use Rattle.attempts.proofs.respond.w_test.Tie as tie
 
 -- e's bytes are bytes
 bytes : (c : tie.After-shared-slice-known) (i : ℕ) → getD (c .before .args .e .now) i 0 < 2 ^ 8

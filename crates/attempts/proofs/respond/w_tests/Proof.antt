@@ -1,4 +1,4 @@
--- `attempts::w_tests` meets its contract. The loop's invariant: w_1..w_i pass, and v_(i + 1)..v_k are as they were. The
+-- `attempts::respond::w_tests` meets its contract. The loop's invariant: w_1..w_i pass, and v_(i + 1)..v_k are as they were. The
 -- measure is the number of those left. Assumes nothing.
 use borrow.Author.Needs.{needs}
 use borrow.Author.Tests.{not-true, not-false}
@@ -8,8 +8,8 @@ use native.Mathlib.Omega.{arith}
 use Rattle.sets.specs.GoodLaws.{row-inside}
 use Rattle.whole.specs.Rows.{row-fits}
 use Rattle.attempts.proofs.TestSteps.{Testing, testing-none, testing-asks, testing-fits, testing-more, testing-back, testing-fails, testing-all}
-use Rattle.attempts.proofs.w_tests.Statement.{statement}
-use Rattle.attempts.proofs.w_tests.Tie as tie
+use Rattle.attempts.proofs.respond.w_tests.Statement.{statement}
+use Rattle.attempts.proofs.respond.w_tests.Tie as tie
 
 abbrev Inv-loop : tie.InvT-loop
 Inv-loop set e v₀ positions signs ec₀ n k i₀ v ec i = Testing set e v₀ positions signs v ec i
