@@ -1,6 +1,6 @@
 -- `signatures::read` meets its contract. Assumes nothing.
 use borrow.Author.Needs.{needs}
-use Rattle.answers.specs.OutputLaws.{made, kept}
+use Rattle.answers.specs.OutputLaws.{made-done, kept-refused}
 use Rattle.signatures.proofs.Steps.{read-takes}
 use Rattle.signatures.proofs.read.Statement.{statement}
 use Rattle.signatures.proofs.read.Tie as tie
@@ -14,5 +14,5 @@ read-spec =
     (λ c κs. search (read-takes, needs))
     (λ c. search needs)
     (λ c. search needs)
-    (λ c. search (made, needs))
-    (λ c. search (kept, needs)))
+    (λ c. search (made-done, needs))
+    (λ c. search (kept-refused, needs)))

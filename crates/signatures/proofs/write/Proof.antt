@@ -1,6 +1,6 @@
 -- `signatures::write` meets its contract. Assumes nothing.
 use borrow.Author.Needs.{needs}
-use Rattle.answers.specs.OutputLaws.{made, kept}
+use Rattle.answers.specs.OutputLaws.{made-done, kept-refused}
 use Rattle.sets.specs.Known.{known-good}
 use Rattle.signatures.proofs.Steps.{write-puts}
 use Rattle.signatures.proofs.write.Statement.{statement}
@@ -14,5 +14,5 @@ write-spec =
     (λ c κs. search needs)
     (λ c κs. search (write-puts, needs))
     (λ c. search needs)
-    (λ c. search (made, needs))
-    (λ c. search (kept, needs)))
+    (λ c. search (made-done, needs))
+    (λ c. search (kept-refused, needs)))
