@@ -28,7 +28,7 @@ use Rattle.records.specs.Layout.{polynomial, secretBytes}
 use Rattle.sets.specs.Limits.{seedBytes, digestBytes}
 use Rattle.records.specs.Secret.{sOf, allE, secretSeedA, secretG}
 use Rattle.signatures.specs.Signature.{zInRange, signatureRecord}
-use Rattle.signatures.specs.Parts.{WritesChecked}
+use Rattle.signatures.specs.Asks.{WritesChecked}
 use Rattle.highs.specs.declared.Highs.{Highs}
 use Rattle.highs.specs.Highs.{Held, Hashes}
 use Rattle.highs.specs.HighsLaws.{hashes-long}
@@ -153,7 +153,8 @@ module _ {set : Numbers} {secret signature bits v : List ℕ} {y z₀ : List ℤ
     unfolding rowPasses
     concluded-writes s l =
         record {
-          room = record { good = t .responds .whole .good; scratch-long = s ∙ t .bits-long };
+          good = t .responds .whole .good;
+          scratch-long = s ∙ t .bits-long;
           z-long = l ∙ t .responds .z-long;
           z-inside = ap (zInRange set) (r .z-is) ∙ both-first _ _ (sym (r .passed-is) ∙ f);
           c-long = d .long;

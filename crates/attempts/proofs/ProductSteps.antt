@@ -146,10 +146,10 @@ module _ {set : Numbers} (known : Known set) {first : List ℤ} {a yr v : List �
           }
 
       pub commit-made : {highs : Highs} → Held set (highsOf set (λ i. polynomial (set .n) i made)) highs → Committed set a rand counter y made highs
+      unfolding highsOf
       commit-made h = record { y-is = e; v-is = commit-v; held = rw highs-are at h }
         where
           highs-are : highsOf set (λ i. polynomial (set .n) i made) ≡ highsOf set (vRow set a (yOf set rand counter))
-          unfolding highsOf
           highs-are =
               joined-ext (set .k) _ _
               (λ i l. ap (highParts set) (ap (polynomial (set .n) i) commit-v ∙ v-parts set a (yOf set rand counter) i l))

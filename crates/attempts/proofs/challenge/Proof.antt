@@ -1,36 +1,39 @@
--- `attempts::challenge` meets its contract. Assumes nothing.
-use Rattle.whole.specs.Below.{Below, below-bytes}
-use Rattle.attempts.proofs.AttemptSteps.{challenged}
 use borrow.Author.Needs.{needs}
 use Rattle.attempts.proofs.challenge.Statement.{statement}
 use Rattle.attempts.proofs.challenge.Tie as tie
+use Rattle.attempts.proofs.challenge.Reads as reads
+use Rattle.attempts.proofs.challenge.Lts as lts
+use Rattle.highs.proofs.hash.Reads as hash-reads
+use Rattle.records.proofs.secret.g_start.Reads as g-start-reads
+use Rattle.records.proofs.secret.secret_bytes.Reads as secret-bytes-reads
 
-digest-bytes : (c : tie.After-shared-slice-known) → Below 256 (c .before .args .digest .now)
-digest-bytes c = below-bytes _ (λ i. c .shared-slice-known .given i .fits)
-
-secret-bytes : (c : tie.After-shared-slice-known2) → Below 256 (c .before .before .args .secret .now)
-secret-bytes c = below-bytes _ (λ i. c .shared-slice-known2 .given i .fits)
-
+-- src/lib.rt:33:9
 g-start-requires : tie.Need-g-start-requires
 g-start-requires c κs = search needs
 
+-- src/lib.rt:34:9
 secret-bytes-requires : tie.Need-secret-bytes-requires
 secret-bytes-requires c κs = search needs
 
-sub-challenge-of : tie.Need-sub-challenge-of
-sub-challenge-of c = search needs
+-- src/lib.rt:35:37
+sub-hash : tie.Need-sub-hash
+sub-hash c = search needs
 
-part-challenge-of-start : tie.Need-part-challenge-of-start
-part-challenge-of-start c = search needs
+-- src/lib.rt:35:37
+part-hash-start : tie.Need-part-hash-start
+part-hash-start c = search needs
 
-part-challenge-of-end : tie.Need-part-challenge-of-end
-part-challenge-of-end c = search needs
+-- src/lib.rt:35:37
+part-hash-end : tie.Need-part-hash-end
+part-hash-end c = search needs
 
-challenge-of-requires : tie.Need-challenge-of-requires
-challenge-of-requires c κs = search needs
+-- src/lib.rt:35:5
+hash-requires : tie.Need-hash-requires
+hash-requires c κs = search needs
 
+-- src/lib.rt:29:1
 returns : tie.Need-returns
-returns c = search (challenged, digest-bytes, secret-bytes, needs)
+returns c = ?
 
 pub challenge-spec : {M : Type 1} → statement M
 challenge-spec =
@@ -38,8 +41,8 @@ challenge-spec =
     (tie.spec
     g-start-requires
     secret-bytes-requires
-    sub-challenge-of
-    part-challenge-of-start
-    part-challenge-of-end
-    challenge-of-requires
+    sub-hash
+    part-hash-start
+    part-hash-end
+    hash-requires
     returns)

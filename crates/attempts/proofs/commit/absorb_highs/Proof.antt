@@ -1,67 +1,67 @@
--- `attempts::commit::absorb_highs` meets its contract. The loop's invariant: the high parts of v_1..v_i are absorbed, and `fit` says
--- whether those fit. The measure is the number of those left. Assumes nothing.
-use mathlib.Core.Path.{sym, _∙_}
-use Prim.Native.Nat.{_-_}
-use native.Mathlib.Omega.{arith}
-use borrow.Author.Needs.{needs}
-use Rattle.sets.specs.GoodLaws.{row-inside}
-use Rattle.whole.specs.Rows.{row-fits}
-use Rattle.attempts.proofs.HighSteps.{Absorbing, absorbing-none, absorbing-asks, absorbing-more, absorbing-all}
 use Rattle.attempts.proofs.commit.absorb_highs.Statement.{statement}
 use Rattle.attempts.proofs.commit.absorb_highs.Tie as tie
+use Rattle.attempts.proofs.commit.absorb_highs.Reads as reads
+use Rattle.attempts.proofs.commit.absorb_highs.Lts as lts
+use Rattle.highs.proofs.add_highs.Reads as add-highs-reads
+use Rattle.highs.proofs.no_highs.Reads as no-highs-reads
 
 abbrev Inv-loop : tie.InvT-loop
-Inv-loop set v bytes₀ n k state₀ fit₀ i₀ bytes state fit i = Absorbing set v bytes state fit i
+Inv-loop set v n k highs₀ i₀ highs i = ?
 
 abbrev μ-loop : tie.MeasureT-loop
-μ-loop set v bytes₀ n k state₀ fit₀ i₀ bytes state fit i = k - i
+μ-loop set v n k highs₀ i₀ highs i = ?
 
-fresh-state-requires : tie.Need-fresh-state-requires Inv-loop μ-loop
-fresh-state-requires c κs = search needs
+-- src/commit.rt:39:9
+no-highs-requires : tie.Need-no-highs-requires Inv-loop μ-loop
+no-highs-requires c κs = ?
 
+-- src/commit.rt:41:5
 loop-holds : tie.Need-loop-holds Inv-loop μ-loop
-loop-holds c = search (absorbing-none, needs)
+loop-holds c = ?
 
+-- src/commit.rt:42:21
 mul-start : tie.Need-mul-start Inv-loop μ-loop
-mul-start c = omega (arith, row-inside (c .before .before .before .before .before .pre .good) (c .loop-test .taken))
+mul-start c = ?
 
-add-high-bytes : tie.Need-add-high-bytes Inv-loop μ-loop
-add-high-bytes c = omega (arith, row-inside (c .before .before .before .before .before .pre .good) (c .loop-test .taken))
+-- src/commit.rt:43:59
+add-add-highs : tie.Need-add-add-highs Inv-loop μ-loop
+add-add-highs c = ?
 
-mul-high-bytes : tie.Need-mul-high-bytes Inv-loop μ-loop
-mul-high-bytes c = omega (arith, row-inside (c .before .before .before .before .before .pre .good) (c .loop-test .taken))
+-- src/commit.rt:43:49
+mul-add-highs : tie.Need-mul-add-highs Inv-loop μ-loop
+mul-add-highs c = ?
 
-sub-high-bytes : tie.Need-sub-high-bytes Inv-loop μ-loop
-sub-high-bytes c = omega arith
+-- src/commit.rt:43:49
+sub-add-highs : tie.Need-sub-add-highs Inv-loop μ-loop
+sub-add-highs c = ?
 
-part-high-bytes-start : tie.Need-part-high-bytes-start Inv-loop μ-loop
-part-high-bytes-start c = omega arith
+-- src/commit.rt:43:49
+part-add-highs-start : tie.Need-part-add-highs-start Inv-loop μ-loop
+part-add-highs-start c = ?
 
-part-high-bytes-end : tie.Need-part-high-bytes-end Inv-loop μ-loop
-part-high-bytes-end c =
-    let start = c .before .before .before .before .before in
-    omega (arith, row-fits (start .args .set .n) (start .args .set .k) (c .before .loop .i) (c .loop-test .taken), start .pre .v-long)
+-- src/commit.rt:43:49
+part-add-highs-end : tie.Need-part-add-highs-end Inv-loop μ-loop
+part-add-highs-end c = ?
 
-high-bytes-requires : tie.Need-high-bytes-requires Inv-loop μ-loop
-high-bytes-requires c κs = search (absorbing-asks, needs)
+-- src/commit.rt:43:13
+add-highs-requires : tie.Need-add-highs-requires Inv-loop μ-loop
+add-highs-requires c κs = ?
 
-absorb-requires : tie.Need-absorb-requires Inv-loop μ-loop
-absorb-requires c κs = search needs
-
+-- src/commit.rt:45:9
 add-i : tie.Need-add-i Inv-loop μ-loop
-add-i c = omega arith
+add-i c = ?
 
+-- src/commit.rt:41:5
 loop-less : tie.Need-loop-less Inv-loop μ-loop
-loop-less c = omega arith
+loop-less c = ?
 
+-- src/commit.rt:41:5
 loop-again : tie.Need-loop-again Inv-loop μ-loop
-loop-again c = search (absorbing-more, needs)
+loop-again c = ?
 
-same-length : tie.Need-same-length Inv-loop μ-loop
-same-length c = search needs
-
+-- src/commit.rt:32:1
 returns : tie.Need-returns Inv-loop μ-loop
-returns c = absorbing-all (c .before .loop .inv) (c .loop-test .left)
+returns c = ?
 
 pub absorb-highs-spec : {M : Type 1} → statement M
 absorb-highs-spec =
@@ -69,18 +69,16 @@ absorb-highs-spec =
     (tie.spec
     Inv-loop
     μ-loop
-    fresh-state-requires
+    no-highs-requires
     loop-holds
     mul-start
-    add-high-bytes
-    mul-high-bytes
-    sub-high-bytes
-    part-high-bytes-start
-    part-high-bytes-end
-    high-bytes-requires
-    absorb-requires
+    add-add-highs
+    mul-add-highs
+    sub-add-highs
+    part-add-highs-start
+    part-add-highs-end
+    add-highs-requires
     add-i
     loop-less
     loop-again
-    same-length
     returns)
