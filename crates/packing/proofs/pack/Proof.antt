@@ -1,6 +1,7 @@
 -- `pack` meets its contract. The loop's invariant: the first k bytes are written, and the bits that wait with the values that were not
 -- read are the rest of the number. The measure is the number of bytes left.
 -- Assumes nothing.
+use borrow.Author.Needs.{needs}
 use Prim.Native.Nat.{_≤_, _+_, _-_, zero-le}
 use mathlib.Core.Logic.{⊎-elim}
 use native.Mathlib.Omega.{arith}
@@ -30,28 +31,13 @@ ready c =
     (c .if1 .came)
 
 mul-len : tie.Need-mul-len Inv-loop μ-loop
-mul-len c = omega (arith, packing-few (c .before .before .pre))
+mul-len c = search (packing-few, needs)
 
 add-len : tie.Need-add-len Inv-loop μ-loop
 add-len c = omega (arith, packing-few (c .before .before .pre))
 
 loop-holds : tie.Need-loop-holds Inv-loop μ-loop
 loop-holds c = (zero-le, (zero-le, packing-none _ _ _))
-
-padded-requires : tie.Need-padded-requires Inv-loop μ-loop
-padded-requires c κs = tt
-
-above-requires : tie.Need-above-requires Inv-loop μ-loop
-above-requires c κs = omega arith
-
-add-have : tie.Need-add-have Inv-loop μ-loop
-add-have c = omega arith
-
-add-at : tie.Need-add-at Inv-loop μ-loop
-add-at c = omega arith
-
-cast-out : tie.Need-cast-out Inv-loop μ-loop
-cast-out c = omega arith
 
 slice-write-out : tie.Need-slice-write-out Inv-loop μ-loop
 slice-write-out c =
@@ -62,12 +48,6 @@ slice-write-out c =
 sub-have : tie.Need-sub-have Inv-loop μ-loop
 sub-have c = omega (arith, ready (c .before .before) .0)
 
-add-k : tie.Need-add-k Inv-loop μ-loop
-add-k c = omega arith
-
-loop-less : tie.Need-loop-less Inv-loop μ-loop
-loop-less c = omega arith
-
 loop-again : tie.Need-loop-again Inv-loop μ-loop
 loop-again c =
     let at-start = c .before .before .before .before .before .before .before in
@@ -75,7 +55,7 @@ loop-again c =
     (omega arith, (r .1 .0, packing-write (at-start .pre) (r .1 .1) (omega arith) (omega arith) (omega arith) (omega arith) (omega arith)))
 
 same-length : tie.Need-same-length Inv-loop μ-loop
-same-length c = packing-length (c .before .before .before .before .pre) (c .before .loop .inv .1 .1) (c .before .loop .inv .0)
+same-length c = search (packing-length, needs)
 
 returns : tie.Need-returns Inv-loop μ-loop
 returns c = packing-all (c .before .before .before .before .pre) (c .before .loop .inv .1 .1) (omega arith)
@@ -89,15 +69,15 @@ pack-spec =
     mul-len
     add-len
     loop-holds
-    padded-requires
-    above-requires
-    add-have
-    add-at
-    cast-out
+    (λ c κs. tt)
+    (λ c κs. omega arith)
+    (λ c. omega arith)
+    (λ c. omega arith)
+    (λ c. omega arith)
     slice-write-out
     sub-have
-    add-k
-    loop-less
+    (λ c. omega arith)
+    (λ c. omega arith)
     loop-again
     same-length
     returns)

@@ -1,6 +1,7 @@
 -- `unpack` meets its contract. The loop's invariant: fewer than b bits wait, and with the bytes that were not read they are what is left
 -- of the number; the values before `at` are stored. The measure is the number of bytes left.
 -- Assumes nothing.
+use borrow.Author.Needs.{needs}
 use Prim.Native.Nat.{_≤_, _<_, _+_, _-_, zero-le}
 use native.Mathlib.Omega.{arith}
 use lib.ListN.{length}
@@ -30,23 +31,8 @@ room c = unpacking-room (read (c .before)) (c .before .before .before .before .b
 loop-holds : tie.Need-loop-holds Inv-loop μ-loop
 loop-holds c = (zero-le, (omega arith, unpacking-none _ _ _))
 
-shared-slice-read-above : tie.Need-shared-slice-read-above Inv-loop μ-loop
-shared-slice-read-above c = omega arith
-
 cast-above : tie.Need-cast-above Inv-loop μ-loop
 cast-above c = omega (arith, c .shared-slice-known2 .given (c .before .before .loop .k))
-
-above-requires : tie.Need-above-requires Inv-loop μ-loop
-above-requires c κs = omega arith
-
-add-have : tie.Need-add-have Inv-loop μ-loop
-add-have c = omega arith
-
-add-k : tie.Need-add-k Inv-loop μ-loop
-add-k c = omega arith
-
-low-requires : tie.Need-low-requires Inv-loop μ-loop
-low-requires c κs = omega arith
 
 mul-out : tie.Need-mul-out Inv-loop μ-loop
 mul-out c = omega (arith, room (c .before))
@@ -59,29 +45,18 @@ slice-write-out c =
 add-at : tie.Need-add-at Inv-loop μ-loop
 add-at c = omega (arith, room (c .before))
 
-shr-acc : tie.Need-shr-acc Inv-loop μ-loop
-shr-acc c = omega arith
-
-loop-less : tie.Need-loop-less Inv-loop μ-loop
-loop-less c = omega arith
-
 loop-again : tie.Need-loop-again Inv-loop μ-loop
 loop-again c =
     (omega arith, (omega arith, unpacking-store (read (c .before .before)) (room (c .before)) (omega arith) (omega arith) (omega arith) (omega arith)))
-
-loop-less-2 : tie.Need-loop-less-2 Inv-loop μ-loop
-loop-less-2 c = omega arith
 
 loop-again-2 : tie.Need-loop-again-2 Inv-loop μ-loop
 loop-again-2 c = (omega arith, (c .if1 .left, read (c .before)))
 
 same-length : tie.Need-same-length Inv-loop μ-loop
-same-length c = unpacking-length (c .before .loop .inv .1 .1) (c .before .before .before .before .pre) (c .before .loop .inv .0)
+same-length c = search (unpacking-length, needs)
 
 returns : tie.Need-returns Inv-loop μ-loop
-returns c =
-    let l = c .before .loop in
-    unpacking-all (l .inv .1 .1) (c .before .before .before .before .pre) (l .inv .0) (c .loop-test .left) (l .inv .1 .0)
+returns c = search (unpacking-all, needs)
 
 pub unpack-spec : {M : Type 1} → statement M
 unpack-spec =
@@ -90,19 +65,19 @@ unpack-spec =
     Inv-loop
     μ-loop
     loop-holds
-    shared-slice-read-above
+    (λ c. omega arith)
     cast-above
-    above-requires
-    add-have
-    add-k
-    low-requires
+    (λ c κs. omega arith)
+    (λ c. omega arith)
+    (λ c. omega arith)
+    (λ c κs. omega arith)
     mul-out
     slice-write-out
     add-at
-    shr-acc
-    loop-less
+    (λ c. omega arith)
+    (λ c. omega arith)
     loop-again
-    loop-less-2
+    (λ c. omega arith)
     loop-again-2
     same-length
     returns)

@@ -9,29 +9,8 @@ use Rattle.rounding.proofs.Laws.{high-low, high-high}
 use Rattle.rounding.proofs.high_of.Statement.{statement}
 use Rattle.rounding.proofs.high_of.Tie as tie
 
-half-step-requires : tie.Need-half-step-requires
-half-step-requires c κs = search needs
-
-sub-result : tie.Need-sub-result
-sub-result c = search needs
-
-add-result : tie.Need-add-result
-add-result c = search needs
-
-shr-result : tie.Need-shr-result
-shr-result c = search needs
-
 cast-result : tie.Need-cast-result
 cast-result c = sfits-of (lt-of-le-of-lt (div-le-self _ _) (omega arith))
-
-sub-negative : tie.Need-sub-negative
-sub-negative c = search needs
-
-add-negative : tie.Need-add-negative
-add-negative c = search needs
-
-shr-negative : tie.Need-shr-negative
-shr-negative c = search needs
 
 negative-requires : tie.Need-negative-requires
 negative-requires c κs = lt-of-le-of-lt (div-le-self _ _) (omega arith)
@@ -46,14 +25,14 @@ pub high-of-spec : {M : Type 1} → statement M
 high-of-spec =
     tie.close
     (tie.spec
-    half-step-requires
-    sub-result
-    add-result
-    shr-result
+    (λ c κs. search needs)
+    (λ c. search needs)
+    (λ c. search needs)
+    (λ c. search needs)
     cast-result
-    sub-negative
-    add-negative
-    shr-negative
+    (λ c. search needs)
+    (λ c. search needs)
+    (λ c. search needs)
     negative-requires
     returns
     returns-2)

@@ -1,6 +1,7 @@
 -- `fill` meets its contract. The loop's invariant: the first k bytes stand in the slice, and the lanes with the place give the others.
 -- The measure is the number of bytes left.
 -- Assumes nothing.
+use borrow.Author.Needs.{needs}
 use mathlib.Core.Bool.{true}
 use mathlib.Core.Path.{_≡_}
 use Prim.Native.Nat.{_≤_, _<_, _-_}
@@ -24,18 +25,6 @@ kept c = squeezing-length (c .loop .inv .1) (c .loop .inv .0)
 loop-holds : tie.Need-loop-holds Inv-loop μ-loop
 loop-holds c = (omega arith, squeezing-none _ _ _ (omega arith))
 
-byte-at-requires : tie.Need-byte-at-requires Inv-loop μ-loop
-byte-at-requires c κs = omega arith
-
-slice-write-out : tie.Need-slice-write-out Inv-loop μ-loop
-slice-write-out c = omega arith
-
-pass-requires : tie.Need-pass-requires Inv-loop μ-loop
-pass-requires c κs = omega arith
-
-add-k : tie.Need-add-k Inv-loop μ-loop
-add-k c = omega (arith, kept (c .before .before .before .before .before))
-
 loop-less : tie.Need-loop-less Inv-loop μ-loop
 loop-less c = omega (arith, kept (c .before .before .before .before .before))
 
@@ -58,10 +47,10 @@ fill-spec =
     Inv-loop
     μ-loop
     loop-holds
-    byte-at-requires
-    slice-write-out
-    pass-requires
-    add-k
+    (λ c κs. omega arith)
+    (λ c. omega arith)
+    (λ c κs. omega arith)
+    (λ c. search needs)
     loop-less
     loop-again
     same-length

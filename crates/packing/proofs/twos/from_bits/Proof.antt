@@ -20,31 +20,16 @@ abbrev μ-loop : tie.MeasureT-loop
 loop-holds : tie.Need-loop-holds Inv-loop μ-loop
 loop-holds c = mapping-none _ _ _
 
-mul-value-of : tie.Need-mul-value-of Inv-loop μ-loop
-mul-value-of c = omega arith
-
-shared-slice-read-value-of : tie.Need-shared-slice-read-value-of Inv-loop μ-loop
-shared-slice-read-value-of c = omega arith
-
 value-of-requires : tie.Need-value-of-requires Inv-loop μ-loop
 value-of-requires c κs =
     let l = c .before .before in
     let p = l .before .before .pre in
     ((p .wide, p .narrow), p .below .at (l .loop .k) (c .before .loop-test .taken))
 
-mul-t10 : tie.Need-mul-t10 Inv-loop μ-loop
-mul-t10 c = omega arith
-
 slice-set-from-out : tie.Need-slice-set-from-out Inv-loop μ-loop
 slice-set-from-out c =
     let l = c .before .before .before in
     omega (arith, mapping-length (l .before .before .pre .exact) (l .loop .inv))
-
-add-k : tie.Need-add-k Inv-loop μ-loop
-add-k c = omega arith
-
-loop-less : tie.Need-loop-less Inv-loop μ-loop
-loop-less c = omega arith
 
 loop-again : tie.Need-loop-again Inv-loop μ-loop
 loop-again c =
@@ -64,13 +49,13 @@ from-bits-spec =
     Inv-loop
     μ-loop
     loop-holds
-    mul-value-of
-    shared-slice-read-value-of
+    (λ c. omega arith)
+    (λ c. omega arith)
     value-of-requires
-    mul-t10
+    (λ c. omega arith)
     slice-set-from-out
-    add-k
-    loop-less
+    (λ c. omega arith)
+    (λ c. omega arith)
     loop-again
     same-length
     returns)

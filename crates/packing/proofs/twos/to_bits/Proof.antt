@@ -1,5 +1,6 @@
 -- `to_bits` meets its contract. The loop's invariant: the bits of the first k numbers are written. The measure is the number of those left.
 -- Assumes nothing.
+use borrow.Author.Needs.{needs}
 use mathlib.Core.Path.{_≡_, ap, _∙_}
 use Prim.Native.Nat.{_-_}
 use native.Mathlib.Omega.{arith}
@@ -35,30 +36,15 @@ as-read c = toZ-ofZ (fits-i32 (c .before .before .before .pre .narrow) (inside c
 loop-holds : tie.Need-loop-holds Inv-loop μ-loop
 loop-holds c = mapping-none _ _ _
 
-mul-bits-of : tie.Need-mul-bits-of Inv-loop μ-loop
-mul-bits-of c = omega arith
-
-shared-slice-copy-out-bits-of : tie.Need-shared-slice-copy-out-bits-of Inv-loop μ-loop
-shared-slice-copy-out-bits-of c = omega arith
-
 bits-of-requires : tie.Need-bits-of-requires Inv-loop μ-loop
 bits-of-requires c κs =
     let p = c .before .before .before .before .pre in
     ((p .wide, p .narrow), rw (as-read (c .before)) (inside (c .before)))
 
-mul-out : tie.Need-mul-out Inv-loop μ-loop
-mul-out c = omega arith
-
 slice-write-out : tie.Need-slice-write-out Inv-loop μ-loop
 slice-write-out c =
     let l = c .before .before .before in
     omega (arith, mapping-length (l .before .before .pre .exact) (l .loop .inv))
-
-add-k : tie.Need-add-k Inv-loop μ-loop
-add-k c = omega arith
-
-loop-less : tie.Need-loop-less Inv-loop μ-loop
-loop-less c = omega arith
 
 loop-again : tie.Need-loop-again Inv-loop μ-loop
 loop-again c =
@@ -67,10 +53,10 @@ loop-again c =
     mapping-more (s .pre .exact) (l .loop .inv) (pos 0) (c .before .before .loop-test .taken) (c .bits-of .ensures ∙ ap (twos (s .args .b)) (as-read (c .before .before)))
 
 same-length : tie.Need-same-length Inv-loop μ-loop
-same-length c = mapping-length (c .before .before .before .pre .exact) (c .before .loop .inv)
+same-length c = search (mapping-length, needs)
 
 returns : tie.Need-returns Inv-loop μ-loop
-returns c = mapping-all (c .before .before .before .pre .exact) (c .before .loop .inv) (c .loop-test .left)
+returns c = search (mapping-all, needs)
 
 pub to-bits-spec : {M : Type 1} → statement M
 to-bits-spec =
@@ -79,13 +65,13 @@ to-bits-spec =
     Inv-loop
     μ-loop
     loop-holds
-    mul-bits-of
-    shared-slice-copy-out-bits-of
+    (λ c. omega arith)
+    (λ c. omega arith)
     bits-of-requires
-    mul-out
+    (λ c. omega arith)
     slice-write-out
-    add-k
-    loop-less
+    (λ c. omega arith)
+    (λ c. omega arith)
     loop-again
     same-length
     returns)

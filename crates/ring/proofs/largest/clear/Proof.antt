@@ -1,4 +1,5 @@
 -- `ring::largest::clear` meets its contract: the loop has written 0 at the first i places. Assumes nothing.
+use borrow.Author.Needs.{needs}
 use mathlib.Core.Path.{refl, _∙_}
 use Prim.Native.Nat.{_-_, _<_}
 use native.Mathlib.Omega.{arith}
@@ -23,9 +24,6 @@ loop-holds c = wrote-none
 mul-slots : tie.Need-mul-slots Inv-loop μ-loop
 mul-slots c = omega (arith, inside c)
 
-slice-write-slots : tie.Need-slice-write-slots Inv-loop μ-loop
-slice-write-slots c = omega arith
-
 add-i : tie.Need-add-i Inv-loop μ-loop
 add-i c = omega (arith, inside c)
 
@@ -33,10 +31,10 @@ loop-less : tie.Need-loop-less Inv-loop μ-loop
 loop-less c = omega (arith, inside c)
 
 loop-again : tie.Need-loop-again Inv-loop μ-loop
-loop-again c = wrote-more (c .before .loop .inv) (omega arith) refl
+loop-again c = search (wrote-more, needs)
 
 same-length : tie.Need-same-length Inv-loop μ-loop
-same-length c = wrote-long (c .before .loop .inv)
+same-length c = search (wrote-long, needs)
 
 returns : tie.Need-returns Inv-loop μ-loop
 returns c = wrote-all (c .before .loop .inv) (omega arith) ∙ zeros (length (c .before .before .args .slots .now))
@@ -49,7 +47,7 @@ clear-spec =
     μ-loop
     loop-holds
     mul-slots
-    slice-write-slots
+    (λ c. omega arith)
     add-i
     loop-less
     loop-again

@@ -1,4 +1,5 @@
 -- `ring::largest::put` meets its contract: the loop has pushed past the first i places. Assumes nothing.
+use borrow.Author.Needs.{needs}
 use mathlib.Core.Logic.{⊎-elim}
 use Prim.Native.Nat.{_-_, _<_}
 use native.Mathlib.Omega.{arith}
@@ -22,18 +23,6 @@ loop-holds c = pushing-none (c .args .x) (c .args .slots .now)
 mul-held : tie.Need-mul-held Inv-loop μ-loop
 mul-held c = omega (arith, inside c)
 
-slice-read-held : tie.Need-slice-read-held Inv-loop μ-loop
-slice-read-held c = omega arith
-
-mul-slots : tie.Need-mul-slots Inv-loop μ-loop
-mul-slots c = omega (arith, inside (c .before .before))
-
-slice-write-slots : tie.Need-slice-write-slots Inv-loop μ-loop
-slice-write-slots c = omega arith
-
-add-i : tie.Need-add-i Inv-loop μ-loop
-add-i c = omega (arith, inside (c .before .before))
-
 loop-less : tie.Need-loop-less Inv-loop μ-loop
 loop-less c = omega (arith, inside (c .before .before))
 
@@ -44,10 +33,10 @@ loop-again c =
     (λ w. rw (w .1, w .2) (pushing-past (here .inv) (omega arith) (omega arith))) (c .if1 .came)
 
 same-length : tie.Need-same-length Inv-loop μ-loop
-same-length c = pushing-long (c .before .loop .inv)
+same-length c = search (pushing-long, needs)
 
 returns : tie.Need-returns Inv-loop μ-loop
-returns c = pushing-all (c .before .loop .inv) (omega arith)
+returns c = search (pushing-all, needs)
 
 pub put-spec : {M : Type 1} → statement M
 put-spec =
@@ -57,10 +46,10 @@ put-spec =
     μ-loop
     loop-holds
     mul-held
-    slice-read-held
-    mul-slots
-    slice-write-slots
-    add-i
+    (λ c. omega arith)
+    (λ c. search needs)
+    (λ c. omega arith)
+    (λ c. search needs)
     loop-less
     loop-again
     same-length

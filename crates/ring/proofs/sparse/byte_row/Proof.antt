@@ -21,12 +21,6 @@ abbrev μ-loop : tie.MeasureT-loop
 loop-holds : tie.Need-loop-holds Inv-loop μ-loop
 loop-holds c = (search needs, byte-summed-none)
 
-mul-turned-byte : tie.Need-mul-turned-byte Inv-loop μ-loop
-mul-turned-byte c = search needs
-
-shared-slice-read-turned-byte : tie.Need-shared-slice-read-turned-byte Inv-loop μ-loop
-shared-slice-read-turned-byte c = search needs
-
 cast-turned-byte : tie.Need-cast-turned-byte Inv-loop μ-loop
 cast-turned-byte c = omega (arith, c .shared-slice-known3 .given (c .before .before .loop .j) .fits)
 
@@ -35,16 +29,8 @@ turned-byte-requires c κs =
     let start = c .before .before .before .before .before in
     (start .pre .terms .inside .at (c .before .before .loop .j) (c .before .loop-test .taken), start .pre .inside)
 
-shared-slice-copy-out-byte-by-sign : tie.Need-shared-slice-copy-out-byte-by-sign Inv-loop μ-loop
-shared-slice-copy-out-byte-by-sign c =
-    let start = c .before .before .before .before .before .before in
-    omega (arith, start .pre .terms .paired, c .before .before .loop-test .taken)
-
 byte-by-sign-requires : tie.Need-byte-by-sign-requires Inv-loop μ-loop
-byte-by-sign-requires c κs =
-    let start = c .before .before .before .before .before .before .before in
-    let v = c .before .turned-byte in
-    (rw (toZ-ofZ (sfits-of (v .ok))) (v .ensures .1), sign-as-read (sign-at (start .pre .terms) (c .before .before .before .before .loop .j) (c .before .before .before .loop-test .taken)))
+byte-by-sign-requires c κs = search (sign-as-read, sign-at, needs)
 
 -- the sum with term j
 summed : (c : tie.After-byte-by-sign Inv-loop μ-loop) → let args = c .before .before .before .before .before .before .before .before .args in let at = c .before .before .before .before .before .loop in ByteSummed (length (args .s .now)) (signedBytes (args .s .now)) (args .positions .now) (args .signs .now) (args .k) (at .j + 1) (toZ w32 (at .sum) +ℤ toZ w32 (ofZ w32 (c .byte-by-sign .result)))
@@ -61,17 +47,11 @@ add-sum c =
     let start = c .before .before .before .before .before .before .before .before in
     byte-summed-fits (omega (arith, start .pre .few, c .before .before .before .before .loop-test .taken)) (summed c)
 
-add-j : tie.Need-add-j Inv-loop μ-loop
-add-j c = search needs
-
-loop-less : tie.Need-loop-less Inv-loop μ-loop
-loop-less c = search needs
-
 loop-again : tie.Need-loop-again Inv-loop μ-loop
 loop-again c = (search needs, rw (toZ-ofZ (add-sum c)) (summed c))
 
 returns : tie.Need-returns Inv-loop μ-loop
-returns c = byte-summed-all (c .before .before .before .before .pre .terms .paired) (c .before .loop .inv .0) (c .loop-test .left) (c .before .loop .inv .1)
+returns c = search (byte-summed-all, needs)
 
 pub byte-row-spec : {M : Type 1} → statement M
 byte-row-spec =
@@ -80,14 +60,14 @@ byte-row-spec =
     Inv-loop
     μ-loop
     loop-holds
-    mul-turned-byte
-    shared-slice-read-turned-byte
+    (λ c. search needs)
+    (λ c. search needs)
     cast-turned-byte
     turned-byte-requires
-    shared-slice-copy-out-byte-by-sign
+    (λ c. search needs)
     byte-by-sign-requires
     add-sum
-    add-j
-    loop-less
+    (λ c. search needs)
+    (λ c. search needs)
     loop-again
     returns)

@@ -22,21 +22,12 @@ loop-holds : tie.Need-loop-holds Inv-loop μ-loop
 loop-holds c = wrote-none
 
 row-requires : tie.Need-row-requires Inv-loop μ-loop
-row-requires c κs = sparse-row-fits (c .before .before .before .before .before .pre) (c .loop-test .taken)
-
-mul-out : tie.Need-mul-out Inv-loop μ-loop
-mul-out c = search needs
+row-requires c κs = search (sparse-row-fits, needs)
 
 slice-write-out : tie.Need-slice-write-out Inv-loop μ-loop
 slice-write-out c =
     let start = c .before .before .before .before .before .before in
     omega (arith, wrote-long (c .before .before .loop .inv), c .before .loop-test .taken, start .pre .long)
-
-add-k : tie.Need-add-k Inv-loop μ-loop
-add-k c = search needs
-
-loop-less : tie.Need-loop-less Inv-loop μ-loop
-loop-less c = search needs
 
 loop-again : tie.Need-loop-again Inv-loop μ-loop
 loop-again c =
@@ -46,7 +37,7 @@ loop-again c =
     wrote-more (at .inv) (omega (arith, inside, start .pre .long, wrote-long (at .inv))) (sparse-row-of (start .pre) (at .k) inside (c .row .ensures))
 
 same-length : tie.Need-same-length Inv-loop μ-loop
-same-length c = wrote-long (c .before .loop .inv)
+same-length c = search (wrote-long, needs)
 
 returns : tie.Need-returns Inv-loop μ-loop
 returns c = wrote-all (c .before .loop .inv) (omega (arith, c .loop-test .left, c .before .before .before .before .before .pre .long, wrote-long (c .before .loop .inv)))
@@ -59,10 +50,10 @@ times-spec =
     μ-loop
     loop-holds
     row-requires
-    mul-out
+    (λ c. search needs)
     slice-write-out
-    add-k
-    loop-less
+    (λ c. search needs)
+    (λ c. search needs)
     loop-again
     same-length
     returns)

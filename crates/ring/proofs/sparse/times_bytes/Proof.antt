@@ -21,21 +21,12 @@ loop-holds : tie.Need-loop-holds Inv-loop μ-loop
 loop-holds c = wrote-none
 
 byte-row-requires : tie.Need-byte-row-requires Inv-loop μ-loop
-byte-row-requires c κs = byte-row-fits (c .before .before .before .before .pre) (c .loop-test .taken)
-
-mul-t9 : tie.Need-mul-t9 Inv-loop μ-loop
-mul-t9 c = search needs
+byte-row-requires c κs = search (byte-row-fits, needs)
 
 slice-set-from-out : tie.Need-slice-set-from-out Inv-loop μ-loop
 slice-set-from-out c =
     let start = c .before .before .before .before .before in
     omega (arith, wrote-long (c .before .before .loop .inv), c .before .loop-test .taken, start .pre .long)
-
-add-k : tie.Need-add-k Inv-loop μ-loop
-add-k c = search needs
-
-loop-less : tie.Need-loop-less Inv-loop μ-loop
-loop-less c = search needs
 
 loop-again : tie.Need-loop-again Inv-loop μ-loop
 loop-again c =
@@ -45,7 +36,7 @@ loop-again c =
     wrote-more (at .inv) (omega (arith, inside, start .pre .long, wrote-long (at .inv))) (byte-row-of (start .pre) (at .k) inside (sfits-of (c .byte-row .ok)) (c .byte-row .ensures))
 
 same-length : tie.Need-same-length Inv-loop μ-loop
-same-length c = wrote-long (c .before .loop .inv)
+same-length c = search (wrote-long, needs)
 
 returns : tie.Need-returns Inv-loop μ-loop
 returns c = wrote-all (c .before .loop .inv) (omega (arith, c .loop-test .left, c .before .before .before .before .pre .long, wrote-long (c .before .loop .inv)))
@@ -58,10 +49,10 @@ times-bytes-spec =
     μ-loop
     loop-holds
     byte-row-requires
-    mul-t9
+    (λ c. search needs)
     slice-set-from-out
-    add-k
-    loop-less
+    (λ c. search needs)
+    (λ c. search needs)
     loop-again
     same-length
     returns)

@@ -1,4 +1,5 @@
 -- `ring::sums::add_bytes` meets its contract: the loop has written the sums at the first i places. Assumes nothing.
+use borrow.Author.Needs.{needs}
 use mathlib.Core.Path.{_∙_}
 use Prim.Native.Nat.{_-_, _<_}
 use native.Mathlib.Omega.{arith}
@@ -26,29 +27,11 @@ loop-holds c = wrote-none
 mul-plus-byte : tie.Need-mul-plus-byte Inv-loop μ-loop
 mul-plus-byte c = omega (arith, inside c)
 
-slice-read-plus-byte : tie.Need-slice-read-plus-byte Inv-loop μ-loop
-slice-read-plus-byte c = omega arith
-
 shared-slice-read-plus-byte : tie.Need-shared-slice-read-plus-byte Inv-loop μ-loop
 shared-slice-read-plus-byte c = omega (arith, inside (c .before .before))
 
 plus-byte-requires : tie.Need-plus-byte-requires Inv-loop μ-loop
-plus-byte-requires c κs =
-    let start = c .before .before .before .before .before .before in
-    record {
-      small = start .pre .bytes .small;
-      residue = wrote-below (c .before .before .before .loop .inv) (omega arith) (start .pre .below);
-      above = start .pre .bytes .above;
-    }
-
-mul-t : tie.Need-mul-t Inv-loop μ-loop
-mul-t c = omega (arith, inside (c .before .before .before))
-
-slice-write-t : tie.Need-slice-write-t Inv-loop μ-loop
-slice-write-t c = omega arith
-
-add-i : tie.Need-add-i Inv-loop μ-loop
-add-i c = omega (arith, inside (c .before .before .before))
+plus-byte-requires c κs = search (residue, wrote-below, needs)
 
 loop-less : tie.Need-loop-less Inv-loop μ-loop
 loop-less c = omega (arith, inside (c .before .before .before))
@@ -57,10 +40,10 @@ loop-again : tie.Need-loop-again Inv-loop μ-loop
 loop-again c = wrote-more (c .before .before .before .before .loop .inv) (omega arith) (c .plus-byte .ensures ∙ rw (wrote-ahead 0 (c .before .before .before .before .loop .inv)))
 
 same-length : tie.Need-same-length Inv-loop μ-loop
-same-length c = wrote-long (c .before .loop .inv)
+same-length c = search (wrote-long, needs)
 
 returns : tie.Need-returns Inv-loop μ-loop
-returns c = wrote-all (c .before .loop .inv) (omega arith)
+returns c = search (wrote-all, needs)
 
 pub add-bytes-spec : {M : Type 1} → statement M
 add-bytes-spec =
@@ -70,12 +53,12 @@ add-bytes-spec =
     μ-loop
     loop-holds
     mul-plus-byte
-    slice-read-plus-byte
+    (λ c. omega arith)
     shared-slice-read-plus-byte
     plus-byte-requires
-    mul-t
-    slice-write-t
-    add-i
+    (λ c. search needs)
+    (λ c. omega arith)
+    (λ c. search needs)
     loop-less
     loop-again
     same-length

@@ -1,4 +1,5 @@
 -- `ring::sums::add_exact` meets its contract: the loop has written the results at the first i places. Assumes nothing.
+use borrow.Author.Needs.{needs}
 use mathlib.Core.Path.{_∙_}
 use Prim.Native.Nat.{_-_, _<_}
 use native.Mathlib.Omega.{arith}
@@ -26,29 +27,11 @@ loop-holds c = wrote-none
 mul-y : tie.Need-mul-y Inv-loop μ-loop
 mul-y c = omega (arith, inside c)
 
-slice-copy-out-y : tie.Need-slice-copy-out-y Inv-loop μ-loop
-slice-copy-out-y c = omega arith
-
-mul-y-2 : tie.Need-mul-y-2 Inv-loop μ-loop
-mul-y-2 c = omega (arith, inside (c .before))
-
 shared-slice-copy-out-y : tie.Need-shared-slice-copy-out-y Inv-loop μ-loop
 shared-slice-copy-out-y c = omega (arith, inside (c .before))
 
 add-y : tie.Need-add-y Inv-loop μ-loop
-add-y c =
-    let start = c .before .before .before .before in
-    let here = c .before .before .before .loop in
-    rw (summands-are (start .pre) (here .inv) (omega arith)) (sum-fits (start .pre) (here .inv) (omega arith))
-
-mul-t12 : tie.Need-mul-t12 Inv-loop μ-loop
-mul-t12 c = omega (arith, inside (c .before .before))
-
-slice-set-from-y : tie.Need-slice-set-from-y Inv-loop μ-loop
-slice-set-from-y c = omega arith
-
-add-i : tie.Need-add-i Inv-loop μ-loop
-add-i c = omega (arith, inside (c .before .before))
+add-y c = search (summands-are, sum-fits, needs)
 
 loop-less : tie.Need-loop-less Inv-loop μ-loop
 loop-less c = omega (arith, inside (c .before .before))
@@ -61,10 +44,10 @@ loop-again c =
     (toZ-ofZ (add-y c) ∙ summands-are (start .pre) (here .inv) (omega arith))
 
 same-length : tie.Need-same-length Inv-loop μ-loop
-same-length c = wrote-long (c .before .loop .inv)
+same-length c = search (wrote-long, needs)
 
 returns : tie.Need-returns Inv-loop μ-loop
-returns c = wrote-all (c .before .loop .inv) (omega arith)
+returns c = search (wrote-all, needs)
 
 pub add-exact-spec : {M : Type 1} → statement M
 add-exact-spec =
@@ -74,13 +57,13 @@ add-exact-spec =
     μ-loop
     loop-holds
     mul-y
-    slice-copy-out-y
-    mul-y-2
+    (λ c. omega arith)
+    (λ c. search needs)
     shared-slice-copy-out-y
     add-y
-    mul-t12
-    slice-set-from-y
-    add-i
+    (λ c. search needs)
+    (λ c. omega arith)
+    (λ c. search needs)
     loop-less
     loop-again
     same-length

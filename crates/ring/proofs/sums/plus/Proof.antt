@@ -1,4 +1,5 @@
 -- `ring::sums::plus` meets its contract. Assumes nothing.
+use borrow.Author.Needs.{needs}
 use mathlib.Core.Path.{_≡_, _∙_}
 use mathlib.Core.Bool.{true, false}
 use native.Mathlib.Omega.{arith}
@@ -22,7 +23,7 @@ above : (c : tie.Else1) → ltZ (c .before .args .x) (pos 0) ≡ false
 above c = rw (is (c .before)) at (c .if1 .left)
 
 sub-minus : tie.Need-sub-minus
-sub-minus c = rw (is (c .before), +ℤ-idl (negℤ (c .before .args .x))) (negated-fits (c .before .args .q) (c .before .args .x) (c .before .pre .near) (c .before .pre .small))
+sub-minus c = search (+ℤ-idl, negℤ, negated-fits, needs)
 
 negated : (c : tie.Then1) → toZ w32 (ofZ w32 (pos 0 -ℤ toZ w32 (ofZ w32 (c .before .args .x)))) ≡ negℤ (c .before .args .x)
 negated c = toZ-ofZ (sub-minus c) ∙ rw (is (c .before)) (+ℤ-idl (negℤ (c .before .args .x)))

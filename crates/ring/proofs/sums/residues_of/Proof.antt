@@ -1,4 +1,5 @@
 -- `ring::sums::residues_of` meets its contract: the loop has written the results at the first i places. Assumes nothing.
+use borrow.Author.Needs.{needs}
 use mathlib.Core.Path.{ap, _∙_}
 use Prim.Native.Nat.{_-_, _<_}
 use native.Mathlib.Omega.{arith}
@@ -39,15 +40,6 @@ plus-requires c κs =
       near = start .pre .within .at (c .before .before .loop .i) (omega (arith, inside (c .before)));
     })
 
-mul-out : tie.Need-mul-out Inv-loop μ-loop
-mul-out c = omega (arith, inside (c .before .before))
-
-slice-write-out : tie.Need-slice-write-out Inv-loop μ-loop
-slice-write-out c = omega arith
-
-add-i : tie.Need-add-i Inv-loop μ-loop
-add-i c = omega (arith, inside (c .before .before))
-
 loop-less : tie.Need-loop-less Inv-loop μ-loop
 loop-less c = omega (arith, inside (c .before .before))
 
@@ -61,10 +53,10 @@ loop-again c =
     ∙ ap (residue (start .args .q)) (+ℤ-idl (integers (start .args .z .now) (here .i))))
 
 same-length : tie.Need-same-length Inv-loop μ-loop
-same-length c = wrote-long (c .before .loop .inv)
+same-length c = search (wrote-long, needs)
 
 returns : tie.Need-returns Inv-loop μ-loop
-returns c = wrote-all (c .before .loop .inv) (omega arith)
+returns c = search (wrote-all, needs)
 
 pub residues-of-spec : {M : Type 1} → statement M
 residues-of-spec =
@@ -76,9 +68,9 @@ residues-of-spec =
     mul-plus
     shared-slice-copy-out-plus
     plus-requires
-    mul-out
-    slice-write-out
-    add-i
+    (λ c. search needs)
+    (λ c. omega arith)
+    (λ c. search needs)
     loop-less
     loop-again
     same-length

@@ -1,4 +1,5 @@
 -- `ring::sums::residues_of_bytes` meets its contract: the loop has written the results at the first i places. Assumes nothing.
+use borrow.Author.Needs.{needs}
 use mathlib.Core.Path.{ap, _∙_}
 use Prim.Native.Nat.{_-_, _<_}
 use native.Mathlib.Omega.{arith}
@@ -26,18 +27,7 @@ shared-slice-read-plus-byte : tie.Need-shared-slice-read-plus-byte Inv-loop μ-l
 shared-slice-read-plus-byte c = omega (arith, inside (c .before))
 
 plus-byte-requires : tie.Need-plus-byte-requires Inv-loop μ-loop
-plus-byte-requires c κs =
-    let start = c .before .before .before .before .before in
-    record { small = start .pre .small; residue = omega (arith, start .pre .above); above = start .pre .above }
-
-mul-out : tie.Need-mul-out Inv-loop μ-loop
-mul-out c = omega (arith, inside (c .before .before))
-
-slice-write-out : tie.Need-slice-write-out Inv-loop μ-loop
-slice-write-out c = omega arith
-
-add-i : tie.Need-add-i Inv-loop μ-loop
-add-i c = omega (arith, inside (c .before .before))
+plus-byte-requires c κs = search (residue, needs)
 
 loop-less : tie.Need-loop-less Inv-loop μ-loop
 loop-less c = omega (arith, inside (c .before .before))
@@ -50,10 +40,10 @@ loop-again c =
     (c .plus-byte .ensures ∙ ap (residue (start .args .q)) (+ℤ-idl (signedBytes (start .args .s .now) (here .i))))
 
 same-length : tie.Need-same-length Inv-loop μ-loop
-same-length c = wrote-long (c .before .loop .inv)
+same-length c = search (wrote-long, needs)
 
 returns : tie.Need-returns Inv-loop μ-loop
-returns c = wrote-all (c .before .loop .inv) (omega arith)
+returns c = search (wrote-all, needs)
 
 pub residues-of-bytes-spec : {M : Type 1} → statement M
 residues-of-bytes-spec =
@@ -64,9 +54,9 @@ residues-of-bytes-spec =
     loop-holds
     shared-slice-read-plus-byte
     plus-byte-requires
-    mul-out
-    slice-write-out
-    add-i
+    (λ c. search needs)
+    (λ c. omega arith)
+    (λ c. search needs)
     loop-less
     loop-again
     same-length

@@ -1,4 +1,5 @@
 -- `ring::sums::subtract` meets its contract: the loop has written the results at the first i places. Assumes nothing.
+use borrow.Author.Needs.{needs}
 use Prim.Native.Nat.{_-_, _<_}
 use native.Mathlib.Omega.{arith}
 use lib.ListN.{length}
@@ -25,12 +26,6 @@ loop-holds c = wrote-none
 mul-minus : tie.Need-mul-minus Inv-loop μ-loop
 mul-minus c = omega (arith, inside c)
 
-slice-read-minus : tie.Need-slice-read-minus Inv-loop μ-loop
-slice-read-minus c = omega arith
-
-mul-minus-2 : tie.Need-mul-minus-2 Inv-loop μ-loop
-mul-minus-2 c = omega (arith, inside (c .before))
-
 shared-slice-read-minus : tie.Need-shared-slice-read-minus Inv-loop μ-loop
 shared-slice-read-minus c = omega (arith, inside (c .before .before))
 
@@ -44,15 +39,6 @@ minus-requires c κs =
       near = omega (arith, start .pre .b-below .at (here .i) (omega (arith, inside (c .before .before))));
     }
 
-mul-a : tie.Need-mul-a Inv-loop μ-loop
-mul-a c = omega (arith, inside (c .before .before .before))
-
-slice-write-a : tie.Need-slice-write-a Inv-loop μ-loop
-slice-write-a c = omega arith
-
-add-i : tie.Need-add-i Inv-loop μ-loop
-add-i c = omega (arith, inside (c .before .before .before))
-
 loop-less : tie.Need-loop-less Inv-loop μ-loop
 loop-less c = omega (arith, inside (c .before .before .before))
 
@@ -63,10 +49,10 @@ loop-again c =
     wrote-next (λ k v. residue (start .args .q) (pos v -ℤ naturals (start .args .b .now) k)) 0 (here .inv) (omega arith) (c .minus .ensures)
 
 same-length : tie.Need-same-length Inv-loop μ-loop
-same-length c = wrote-long (c .before .loop .inv)
+same-length c = search (wrote-long, needs)
 
 returns : tie.Need-returns Inv-loop μ-loop
-returns c = wrote-all (c .before .loop .inv) (omega arith)
+returns c = search (wrote-all, needs)
 
 pub subtract-spec : {M : Type 1} → statement M
 subtract-spec =
@@ -76,13 +62,13 @@ subtract-spec =
     μ-loop
     loop-holds
     mul-minus
-    slice-read-minus
-    mul-minus-2
+    (λ c. omega arith)
+    (λ c. search needs)
     shared-slice-read-minus
     minus-requires
-    mul-a
-    slice-write-a
-    add-i
+    (λ c. search needs)
+    (λ c. omega arith)
+    (λ c. search needs)
     loop-less
     loop-again
     same-length

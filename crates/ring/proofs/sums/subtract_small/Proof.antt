@@ -1,4 +1,5 @@
 -- `ring::sums::subtract_small` meets its contract: the loop has written the results at the first i places. Assumes nothing.
+use borrow.Author.Needs.{needs}
 use mathlib.Core.Path.{ap, _∙_}
 use Prim.Native.Nat.{_-_, _<_}
 use native.Mathlib.Omega.{arith}
@@ -26,12 +27,6 @@ loop-holds c = wrote-none
 mul-minus-small : tie.Need-mul-minus-small Inv-loop μ-loop
 mul-minus-small c = omega (arith, inside c)
 
-slice-read-minus-small : tie.Need-slice-read-minus-small Inv-loop μ-loop
-slice-read-minus-small c = omega arith
-
-mul-minus-small-2 : tie.Need-mul-minus-small-2 Inv-loop μ-loop
-mul-minus-small-2 c = omega (arith, inside (c .before))
-
 shared-slice-copy-out-minus-small : tie.Need-shared-slice-copy-out-minus-small Inv-loop μ-loop
 shared-slice-copy-out-minus-small c = omega (arith, inside (c .before))
 
@@ -46,15 +41,6 @@ minus-small-requires c κs =
       near = start .pre .numbers .within .at (here .i) (omega (arith, inside (c .before .before)));
     })
 
-mul-v : tie.Need-mul-v Inv-loop μ-loop
-mul-v c = omega (arith, inside (c .before .before .before))
-
-slice-write-v : tie.Need-slice-write-v Inv-loop μ-loop
-slice-write-v c = omega arith
-
-add-i : tie.Need-add-i Inv-loop μ-loop
-add-i c = omega (arith, inside (c .before .before .before))
-
 loop-less : tie.Need-loop-less Inv-loop μ-loop
 loop-less c = omega (arith, inside (c .before .before .before))
 
@@ -67,10 +53,10 @@ loop-again c =
     ∙ ap (λ (z : ℤ). residue (start .args .q) (pos (getD (here .v) (here .i) 0) -ℤ z)) (small-at (start .pre .numbers) (inside (c .before .before .before))))
 
 same-length : tie.Need-same-length Inv-loop μ-loop
-same-length c = wrote-long (c .before .loop .inv)
+same-length c = search (wrote-long, needs)
 
 returns : tie.Need-returns Inv-loop μ-loop
-returns c = wrote-all (c .before .loop .inv) (omega arith)
+returns c = search (wrote-all, needs)
 
 pub subtract-small-spec : {M : Type 1} → statement M
 subtract-small-spec =
@@ -80,13 +66,13 @@ subtract-small-spec =
     μ-loop
     loop-holds
     mul-minus-small
-    slice-read-minus-small
-    mul-minus-small-2
+    (λ c. omega arith)
+    (λ c. search needs)
     shared-slice-copy-out-minus-small
     minus-small-requires
-    mul-v
-    slice-write-v
-    add-i
+    (λ c. search needs)
+    (λ c. omega arith)
+    (λ c. search needs)
     loop-less
     loop-again
     same-length

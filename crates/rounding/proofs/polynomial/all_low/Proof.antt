@@ -1,5 +1,6 @@
 -- `rounding::polynomial::all_low` meets its contract. The loop's invariant: the coefficients before i pass.
 -- The measure is the number of those left. Assumes nothing.
+use borrow.Author.Needs.{needs}
 use mathlib.Core.Path.{refl, sym, _∙_}
 use Prim.Native.Nat.{_-_}
 use native.Mathlib.Omega.{arith}
@@ -20,12 +21,6 @@ abbrev μ-loop : tie.MeasureT-loop
 loop-holds : tie.Need-loop-holds Inv-loop μ-loop
 loop-holds c = passing-none _ _
 
-mul-low-passes : tie.Need-mul-low-passes Inv-loop μ-loop
-mul-low-passes c = omega arith
-
-shared-slice-read-low-passes : tie.Need-shared-slice-read-low-passes Inv-loop μ-loop
-shared-slice-read-low-passes c = omega arith
-
 low-passes-requires : tie.Need-low-passes-requires Inv-loop μ-loop
 low-passes-requires c κs =
     let s = c .before .before .before .before in
@@ -36,19 +31,13 @@ returns c =
     let l = c .before .before .before .before in
     passing-fails (l .loop .inv) 0 (c .before .before .before .loop-test .taken) (sym (c .before .low-passes .ensures) ∙ not-true _ (c .if1 .taken))
 
-add-i : tie.Need-add-i Inv-loop μ-loop
-add-i c = omega arith
-
-loop-less : tie.Need-loop-less Inv-loop μ-loop
-loop-less c = omega arith
-
 loop-again : tie.Need-loop-again Inv-loop μ-loop
 loop-again c =
     let l = c .before .before .before .before in
     passing-more (l .loop .inv) 0 (c .before .before .before .loop-test .taken) (sym (c .before .low-passes .ensures) ∙ not-false _ (c .if1 .left)) refl
 
 returns-2 : tie.Need-returns-2 Inv-loop μ-loop
-returns-2 c = passing-all (c .before .loop .inv) (c .loop-test .left)
+returns-2 c = search (passing-all, needs)
 
 pub all-low-spec : {M : Type 1} → statement M
 all-low-spec =
@@ -57,11 +46,11 @@ all-low-spec =
     Inv-loop
     μ-loop
     loop-holds
-    mul-low-passes
-    shared-slice-read-low-passes
+    (λ c. omega arith)
+    (λ c. omega arith)
     low-passes-requires
     returns
-    add-i
-    loop-less
+    (λ c. omega arith)
+    (λ c. omega arith)
     loop-again
     returns-2)

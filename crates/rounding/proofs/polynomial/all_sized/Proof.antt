@@ -1,5 +1,6 @@
 -- `rounding::polynomial::all_sized` meets its contract. The loop's invariant: the coefficients before j pass.
 -- The measure is the number of those left. Assumes nothing.
+use borrow.Author.Needs.{needs}
 use mathlib.Core.Path.{refl, sym, _∙_}
 use Prim.Native.Nat.{_-_}
 use native.Mathlib.Omega.{arith}
@@ -20,12 +21,6 @@ abbrev μ-loop : tie.MeasureT-loop
 loop-holds : tie.Need-loop-holds Inv-loop μ-loop
 loop-holds c = passing-none _ _
 
-mul-size-passes : tie.Need-mul-size-passes Inv-loop μ-loop
-mul-size-passes c = omega arith
-
-shared-slice-read-size-passes : tie.Need-shared-slice-read-size-passes Inv-loop μ-loop
-shared-slice-read-size-passes c = omega arith
-
 size-passes-requires : tie.Need-size-passes-requires Inv-loop μ-loop
 size-passes-requires c κs =
     let s = c .before .before .before .before in
@@ -36,19 +31,13 @@ returns c =
     let l = c .before .before .before .before in
     passing-fails (l .loop .inv) 0 (c .before .before .before .loop-test .taken) (sym (c .before .size-passes .ensures) ∙ not-true _ (c .if1 .taken))
 
-add-j : tie.Need-add-j Inv-loop μ-loop
-add-j c = omega arith
-
-loop-less : tie.Need-loop-less Inv-loop μ-loop
-loop-less c = omega arith
-
 loop-again : tie.Need-loop-again Inv-loop μ-loop
 loop-again c =
     let l = c .before .before .before .before in
     passing-more (l .loop .inv) 0 (c .before .before .before .loop-test .taken) (sym (c .before .size-passes .ensures) ∙ not-false _ (c .if1 .left)) refl
 
 returns-2 : tie.Need-returns-2 Inv-loop μ-loop
-returns-2 c = passing-all (c .before .loop .inv) (c .loop-test .left)
+returns-2 c = search (passing-all, needs)
 
 pub all-sized-spec : {M : Type 1} → statement M
 all-sized-spec =
@@ -57,11 +46,11 @@ all-sized-spec =
     Inv-loop
     μ-loop
     loop-holds
-    mul-size-passes
-    shared-slice-read-size-passes
+    (λ c. omega arith)
+    (λ c. omega arith)
     size-passes-requires
     returns
-    add-j
-    loop-less
+    (λ c. omega arith)
+    (λ c. omega arith)
     loop-again
     returns-2)

@@ -33,33 +33,15 @@ as-read c = toZ-ofZ (sfits-of (c .high-of .ok)) ∙ c .high-of .ensures
 loop-holds : tie.Need-loop-holds Inv-loop μ-loop
 loop-holds c = (mapping-none _ _ _, tested-none)
 
-mul-high-of : tie.Need-mul-high-of Inv-loop μ-loop
-mul-high-of c = omega arith
-
-shared-slice-read-high-of : tie.Need-shared-slice-read-high-of Inv-loop μ-loop
-shared-slice-read-high-of c = omega arith
-
 high-of-requires : tie.Need-high-of-requires Inv-loop μ-loop
 high-of-requires c κs =
     let s = c .before .before .before .before .before in
     record { residue = s .pre .below .at (c .before .before .loop .k) (c .before .loop-test .taken); small = s .pre .small; step = s .pre .step; fits = s .pre .fits }
 
-byte-of-requires : tie.Need-byte-of-requires Inv-loop μ-loop
-byte-of-requires c κs = search needs
-
 slice-write-out : tie.Need-slice-write-out Inv-loop μ-loop
 slice-write-out c =
     let l = c .before .before .before .before in
     omega (arith, mapping-length (l .before .before .before .pre .exact) (l .loop .inv .0))
-
-fits-byte-requires : tie.Need-fits-byte-requires Inv-loop μ-loop
-fits-byte-requires c κs = search needs
-
-add-k : tie.Need-add-k Inv-loop μ-loop
-add-k c = omega arith
-
-loop-less : tie.Need-loop-less Inv-loop μ-loop
-loop-less c = omega arith
 
 loop-again : tie.Need-loop-again Inv-loop μ-loop
 loop-again c =
@@ -69,11 +51,10 @@ loop-again c =
     (mapping-more (s .pre .exact) (l .loop .inv .0) 0 i (c .before .byte-of .ensures ∙ ap (twos 8) (as-read (c .before .before))), tested-more 0 (l .loop .inv .1) i (c .fits-byte .ensures ∙ ap fitsByte (as-read (c .before .before))))
 
 same-length : tie.Need-same-length Inv-loop μ-loop
-same-length c = mapping-length (c .before .before .before .before .pre .exact) (c .before .loop .inv .0)
+same-length c = search (mapping-length, needs)
 
 returns : tie.Need-returns Inv-loop μ-loop
-returns c =
-    (tested-all (c .before .loop .inv .1) (c .loop-test .left), mapping-all (c .before .before .before .before .pre .exact) (c .before .loop .inv .0) (c .loop-test .left))
+returns c = search (tested-all, mapping-all, needs)
 
 pub high-bytes-spec : {M : Type 1} → statement M
 high-bytes-spec =
@@ -82,14 +63,14 @@ high-bytes-spec =
     Inv-loop
     μ-loop
     loop-holds
-    mul-high-of
-    shared-slice-read-high-of
+    (λ c. omega arith)
+    (λ c. omega arith)
     high-of-requires
-    byte-of-requires
+    (λ c κs. search needs)
     slice-write-out
-    fits-byte-requires
-    add-k
-    loop-less
+    (λ c κs. search needs)
+    (λ c. omega arith)
+    (λ c. omega arith)
     loop-again
     same-length
     returns)
