@@ -14,6 +14,9 @@ use Rattle.whole.specs.Table.{table, getD-table, length-table, joined}
 pub record Below (m : ℕ) (xs : List ℕ) : Type 0 where
   pub at : (i : ℕ) → i < length xs → getD xs i 0 < m
 
+pub below-at : {m : ℕ} {xs : List ℕ} (i : ℕ) → Below m xs → i < length xs → getD xs i 0 < m
+below-at i b l = b .at i l
+
 pub below-none : {m : ℕ} → Below m []
 below-none = record { at = λ i l. absurd (omega arith) }
 
@@ -73,6 +76,9 @@ below-joined m (suc k) f h =
 -- every number is from −m to m
 pub record Within (m : ℕ) (zs : List ℤ) : Type 0 where
   pub at : (i : ℕ) → i < length zs → natAbs (getD zs i (pos 0)) ≤ m
+
+pub within-at : {m : ℕ} {zs : List ℤ} (i : ℕ) → Within m zs → i < length zs → natAbs (getD zs i (pos 0)) ≤ m
+within-at i w l = w .at i l
 
 pub within-more : {m k : ℕ} (zs : List ℤ) → m ≤ k → Within m zs → Within k zs
 within-more zs h w = record { at = λ i l. omega (arith, w .at i l) }

@@ -7,7 +7,7 @@ use mathlib.Core.Logic.{⊎-elim}
 use native.Mathlib.Omega.{arith}
 use lib.ListN.{length}
 use Rattle.packing.specs.Digits.{bytesFor}
-use Rattle.packing.proofs.Steps.{Packing, packing-none, packing-read, packing-write, packing-length, packing-all, packing-few}
+use Rattle.packing.proofs.Steps.{Packing, packing-none, packing-read, packing-write, packing-all, packing-few}
 use Rattle.packing.proofs.pack.Statement.{statement}
 use Rattle.packing.proofs.pack.Tie as tie
 
@@ -39,12 +39,6 @@ add-len c = omega (arith, packing-few (c .before .before .pre))
 loop-holds : tie.Need-loop-holds Inv-loop μ-loop
 loop-holds c = (zero-le, (zero-le, packing-none _ _ _))
 
-slice-write-out : tie.Need-slice-write-out Inv-loop μ-loop
-slice-write-out c =
-    let at-loop = c .before .before .before in
-    let p = at-loop .before .before .before .pre in
-    omega (arith, p .room, packing-length p (at-loop .loop .inv .1 .1) (at-loop .loop .inv .0))
-
 sub-have : tie.Need-sub-have Inv-loop μ-loop
 sub-have c = omega (arith, ready (c .before .before) .0)
 
@@ -53,9 +47,6 @@ loop-again c =
     let at-start = c .before .before .before .before .before .before .before in
     let r = ready (c .before .before) in
     (omega arith, (r .1 .0, packing-write (at-start .pre) (r .1 .1) (omega arith) (omega arith) (omega arith) (omega arith) (omega arith)))
-
-same-length : tie.Need-same-length Inv-loop μ-loop
-same-length c = search (packing-length, needs)
 
 returns : tie.Need-returns Inv-loop μ-loop
 returns c = packing-all (c .before .before .before .before .pre) (c .before .loop .inv .1 .1) (omega arith)
@@ -74,10 +65,10 @@ pack-spec =
     (λ c. omega arith)
     (λ c. omega arith)
     (λ c. omega arith)
-    slice-write-out
+    (λ c. omega arith)
     sub-have
     (λ c. omega arith)
     (λ c. omega arith)
     loop-again
-    same-length
+    (λ c. search needs)
     returns)

@@ -1,7 +1,6 @@
 -- `padded` meets its contract: past the end a list is read as 0.
 -- Assumes nothing.
 use borrow.Author.Needs.{needs}
-use mathlib.Core.Path.{sym}
 use native.Mathlib.Omega.{arith}
 use lib.ListN.{List·getD-eq-default}
 use Rattle.packing.proofs.padded.Statement.{statement}

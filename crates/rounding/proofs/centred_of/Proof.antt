@@ -1,6 +1,6 @@
 -- `rounding::centred_of` meets its contract. Assumes nothing.
-use borrow.Author.Needs.{needs, sfits-of}
-use mir.Facts.{toZ-ofZ, toZ-pos}
+use borrow.Author.Needs.{needs}
+use mir.Facts.{toZ-pos}
 use mathlib.Core.Path.{sym, _∙_}
 use native.Mathlib.Omega.{arith}
 use mir.Syntax.{w32}

@@ -1,8 +1,6 @@
 -- `rounding::magnitude` meets its contract. Assumes nothing.
 use borrow.Author.Needs.{needs}
-use Prim.Native.Nat.{_-_}
 use lib.IntN.{pos, natAbs}
-use mathlib.Core.Path.{sym, ap, _∙_}
 use Rattle.whole.specs.Int.{abs-neg}
 use Rattle.rounding.proofs.Laws.{centred-low, centred-high}
 use Rattle.rounding.proofs.magnitude.Statement.{statement}

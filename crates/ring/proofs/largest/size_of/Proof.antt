@@ -1,7 +1,5 @@
 -- `ring::largest::size_of` meets its contract. Assumes nothing.
 use borrow.Author.Needs.{needs}
-use native.Mathlib.Omega.{arith}
-use mathlib.Core.Path.{sym}
 use Rattle.whole.specs.Twos.{size-low, size-high}
 use Rattle.ring.proofs.largest.size_of.Statement.{statement}
 use Rattle.ring.proofs.largest.size_of.Tie as tie

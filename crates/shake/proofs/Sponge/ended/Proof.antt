@@ -1,7 +1,6 @@
 -- `Sponge::ended` meets its contract: the suffix with the padding, and the permutation.
 -- Assumes nothing.
 use borrow.Author.Needs.{needs}
-use native.Mathlib.Omega.{arith}
 use Rattle.shake.proofs.Steps.{ended-is}
 use Rattle.shake.proofs.Sponge.ended.Statement.{statement}
 use Rattle.shake.proofs.Sponge.ended.Tie as tie
