@@ -1,6 +1,5 @@
 -- `rounding::low_passes` meets its contract. Assumes nothing.
 use borrow.Author.Needs.{needs}
-use lib.IntN.{pos}
 use Rattle.rounding.proofs.Laws.{low-fits}
 use native.Mathlib.Omega.{arith}
 use Rattle.rounding.specs.Tests.{lowPasses}
@@ -8,7 +7,7 @@ use Rattle.rounding.proofs.low_passes.Statement.{statement}
 use Rattle.rounding.proofs.low_passes.Tie as tie
 
 add-result : tie.Need-add-result
-add-result c = omega (arith, c .low-magnitude .ensures, low-fits (c .before .args .q) (c .before .args .d) (pos (c .before .args .w)) (c .before .pre .0 .step) (c .before .pre .0 .fits))
+add-result c = omega (arith, low-fits (c .before .pre .0) (c .low-magnitude .ensures))
 
 returns : tie.Need-returns
 unfolding lowPasses
