@@ -2,14 +2,13 @@
 use borrow.Author.Needs.{needs}
 use mathlib.Core.Path.{ap, _∙_}
 use Prim.Native.Nat.{ℕ}
-use lib.ListN.{length}
 use Rattle.ring.specs.Largest.{places, sizes}
 use Rattle.ring.proofs.Places.{cleared}
 use Rattle.ring.proofs.largest.pick.Statement.{statement}
 use Rattle.ring.proofs.largest.pick.Tie as tie
 
 push-all-requires : tie.Need-push-all-requires
-push-all-requires c κs = search (cleared, length, needs)
+push-all-requires c κs = search (cleared, needs)
 
 returns : tie.Need-returns
 returns c =

@@ -2,7 +2,7 @@
 use borrow.Author.Needs.{needs}
 use native.Mathlib.Omega.{arith}
 use lib.ListN.{length}
-use Rattle.ring.proofs.Places.{Picked, picked-none, picked-long, picked-more, picked-all}
+use Rattle.ring.proofs.Places.{Picked, picked-none, picked-more, picked-all}
 use Rattle.ring.proofs.largest.push_all.Statement.{statement}
 use Rattle.ring.proofs.largest.push_all.Tie as tie
 
@@ -17,9 +17,6 @@ loop-holds c = search (picked-none, needs)
 
 loop-again : tie.Need-loop-again Inv-loop μ-loop
 loop-again c = search (picked-more, needs)
-
-same-length : tie.Need-same-length Inv-loop μ-loop
-same-length c = search (picked-long, needs)
 
 returns : tie.Need-returns Inv-loop μ-loop
 returns c = search (picked-all, needs)
@@ -37,5 +34,5 @@ push-all-spec =
     (λ c κs. tt)
     (λ c. omega arith)
     loop-again
-    same-length
+    (λ c. search needs)
     returns)

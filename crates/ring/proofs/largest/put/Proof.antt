@@ -1,10 +1,10 @@
 -- `ring::largest::put` meets its contract: the loop has pushed past the first i places. Assumes nothing.
 use borrow.Author.Needs.{needs}
 use mathlib.Core.Logic.{⊎-elim}
-use Prim.Native.Nat.{_-_, _<_}
+use Prim.Native.Nat.{_-_}
 use native.Mathlib.Omega.{arith}
 use lib.ListN.{length, getD}
-use Rattle.ring.proofs.Places.{Pushing, pushing-none, pushing-long, pushing-more, pushing-past, pushing-all}
+use Rattle.ring.proofs.Places.{Pushing, pushing-none, pushing-more, pushing-past, pushing-all}
 use Rattle.ring.proofs.largest.put.Statement.{statement}
 use Rattle.ring.proofs.largest.put.Tie as tie
 
@@ -14,26 +14,14 @@ Inv-loop x slots₀ moving₀ i₀ slots moving i = Pushing x slots₀ moving i 
 abbrev μ-loop : tie.MeasureT-loop
 μ-loop x slots₀ moving₀ i₀ slots moving i = length slots₀ - i
 
-inside : (c : tie.In-loop Inv-loop μ-loop) → c .before .loop .i < length (c .before .before .args .slots .now)
-inside c = omega (arith, pushing-long (c .before .loop .inv))
-
 loop-holds : tie.Need-loop-holds Inv-loop μ-loop
 loop-holds c = pushing-none (c .args .x) (c .args .slots .now)
-
-mul-held : tie.Need-mul-held Inv-loop μ-loop
-mul-held c = omega (arith, inside c)
-
-loop-less : tie.Need-loop-less Inv-loop μ-loop
-loop-less c = omega (arith, inside (c .before .before))
 
 loop-again : tie.Need-loop-again Inv-loop μ-loop
 loop-again c =
     let here = c .before .before .before .loop in
     ⊎-elim (λ w. rw (w .1, w .2) (pushing-more (here .inv) (omega arith) (here .moving) (getD (here .slots) (here .i) 0) (omega arith) (omega arith)))
     (λ w. rw (w .1, w .2) (pushing-past (here .inv) (omega arith) (omega arith))) (c .if1 .came)
-
-same-length : tie.Need-same-length Inv-loop μ-loop
-same-length c = search (pushing-long, needs)
 
 returns : tie.Need-returns Inv-loop μ-loop
 returns c = search (pushing-all, needs)
@@ -45,12 +33,12 @@ put-spec =
     Inv-loop
     μ-loop
     loop-holds
-    mul-held
+    (λ c. omega arith)
     (λ c. omega arith)
     (λ c. search needs)
     (λ c. omega arith)
     (λ c. search needs)
-    loop-less
+    (λ c. omega arith)
     loop-again
-    same-length
+    (λ c. search needs)
     returns)

@@ -23,7 +23,7 @@ above : (c : tie.Else1) → ltZ (c .before .args .x) (pos 0) ≡ false
 above c = rw (is (c .before)) at (c .if1 .left)
 
 sub-minus : tie.Need-sub-minus
-sub-minus c = search (+ℤ-idl, negℤ, negated-fits, needs)
+sub-minus c = search (+ℤ-idl, negated-fits, needs)
 
 negated : (c : tie.Then1) → toZ w32 (ofZ w32 (pos 0 -ℤ toZ w32 (ofZ w32 (c .before .args .x)))) ≡ negℤ (c .before .args .x)
 negated c = toZ-ofZ (sub-minus c) ∙ rw (is (c .before)) (+ℤ-idl (negℤ (c .before .args .x)))
