@@ -2,8 +2,8 @@
 -- their absolute values. Assumes nothing.
 use mathlib.Core.Path.{_≡_, sym, ap, subst, _∙_}
 use mathlib.Core.Bool.{true, false}
-use Prim.Native.Nat.{ℕ, _+_, _*_, _-_, _^_, _≤_, _<_}
-use native.Mathlib.Nat.{mul-one}
+use Prim.Native.Nat.{ℕ, _+_, _*_, _-_, _%_, _^_, _≤_, _<_}
+use native.Mathlib.Nat.{mul-one, mod-lt}
 use native.Mathlib.Omega.{arith}
 use lib.Dec.{T}
 use mir.Syntax.{w32}
@@ -86,3 +86,7 @@ number-fits q x h l = small-fits x (omega arith)
 
 pub negated-fits : (q : ℕ) (x : ℤ) → natAbs x ≤ q → q < 2 ^ 31 → SFits w32 (negℤ x)
 negated-fits q x h l = small-fits (negℤ x) (omega (arith, abs-neg x))
+
+-- a residue fits where q does
+pub rest-fits : (s : ℕ) {q : ℕ} → 0 < q → q < 2 ^ 32 → s % q < 2 ^ 32
+rest-fits s h l = omega (arith, mod-lt s h)

@@ -182,14 +182,14 @@ module _ {q multiple : ℕ} {a b : List ℕ} {k : ℕ} (r : Row q multiple a b k
         most = r .whole .most;
       })
 
-  pub upto-fits : {s : ℕ} → s ≤ multiple → Foldable multiple s (upto k a) (upto k b)
-  upto-fits {s} h =
+  pub upto-fits : {z w : ℕ} → Kept multiple z w → Foldable multiple (multiple - w) (upto k a) (upto k b)
+  upto-fits h =
       rw (upto-is k a, upto-is k b)
       (record {
         long = omega (arith, length-take (suc k) a, length-take (suc k) b, r .long);
         x-below = below-take (2 ^ 31) (suc k) a (below-more a (r .small) (r .a-below));
         y-below = below-take (2 ^ 31) (suc k) b (below-more b (r .small) (r .b-below));
-        start = h;
+        start = omega arith;
         least = r .whole .least;
         most = r .whole .most;
       })

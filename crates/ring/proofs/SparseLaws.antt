@@ -114,8 +114,8 @@ module _ {q n : ℕ} {f : Poly} {ps : List ℕ} {ss : List ℤ} {k : ℕ} where
         same = rw (add-one j) (same-add (h .same) (same-trans (rw (sign-read e) at (b .same)) (same-mul (same-refl q (getD ss j (pos 0))) (a .same))));
       }
 
-  pub summed-fits : {j s r : ℕ} → j < 2 ^ 16 → q < 2 ^ 32 → r ≤ q → Summed q n f ps ss k j s → s + r < 2 ^ 64
-  summed-fits {j} {s} {r} few small l h =
+  pub summed-fits : {j s r : ℕ} → Summed q n f ps ss k j s → j < length ps → length ps < 2 ^ 16 → q < 2 ^ 32 → r ≤ q → s + r < 2 ^ 64
+  summed-fits {j} {s} {r} h inside few small l =
       omega (arith, h .most, mul-le-mul {n₁ = j} {m₁ = q} {n₂ = 2 ^ 16} {m₂ = 2 ^ 32} (omega arith) (omega arith))
 
   pub summed-all : {j s : ℕ} → 0 < q → length ss ≡ length ps → j ≤ length ps → length ps ≤ j → Summed q n f ps ss k j s → s % q ≡ residue q (turns n f ps ss k)
@@ -171,7 +171,7 @@ module _ {n : ℕ} {f : Poly} {ps : List ℕ} {ss : List ℤ} {k : ℕ} where
   unfolding sum
   byte-summed-none = record { most = omega arith; is = refl }
 
-  pub byte-summed-more : {j : ℕ} {z v r : ℤ} → Sign (getD ss j (pos 0)) → SFits w32 v → SFits w32 r → (v ≡ turn n (getD ps j 0) f k) × (natAbs v ≤ 128) → r ≡ toZ w8 (ofZ w8 (getD ss j (pos 0))) *ℤ toZ w32 (ofZ w32 v) → ByteSummed n f ps ss k j z → ByteSummed n f ps ss k (j + 1) (z +ℤ toZ w32 (ofZ w32 r))
+  byte-summed-more : {j : ℕ} {z v r : ℤ} → Sign (getD ss j (pos 0)) → SFits w32 v → SFits w32 r → (v ≡ turn n (getD ps j 0) f k) × (natAbs v ≤ 128) → r ≡ toZ w8 (ofZ w8 (getD ss j (pos 0))) *ℤ toZ w32 (ofZ w32 v) → ByteSummed n f ps ss k j z → ByteSummed n f ps ss k (j + 1) (z +ℤ toZ w32 (ofZ w32 r))
   unfolding sum
   byte-summed-more {j} {z} {v} {r} e hv hr a b h = rw (toZ-ofZ hr) (record { most = size; is = rw (add-one j) (ap₂ _+ℤ_ (h .is) (term ∙ ap (λ (x : ℤ). getD ss j (pos 0) *ℤ x) (a .0))) })
     where
@@ -184,8 +184,18 @@ module _ {n : ℕ} {f : Poly} {ps : List ℕ} {ss : List ℤ} {k : ℕ} where
       size : natAbs (z +ℤ r) ≤ 128 * (j + 1)
       size = omega (arith, abs-sum z r, h .most, as-large, a .1)
 
-  pub byte-summed-fits : {j : ℕ} {z : ℤ} → j ≤ 2 ^ 16 → ByteSummed n f ps ss k j z → SFits w32 z
-  byte-summed-fits {j} {z} few h = small-fits z (omega (arith, h .most))
+  -- the term that the code adds: the sum fits, and is that of one term more
+  module _ {j : ℕ} {z v r : ℤ} (signs : Signed n ps ss) (few : length ps < 2 ^ 16) (h : ByteSummed n f ps ss k j z) (l : j < length ps)
+      (hv : SFits w32 v) (hr : SFits w32 r) (a : (v ≡ turn n (getD ps j 0) f k) × (natAbs v ≤ 128))
+      (b : r ≡ toZ w8 (ofZ w8 (getD ss j (pos 0))) *ℤ toZ w32 (ofZ w32 v)) where
+    next : ByteSummed n f ps ss k (j + 1) (z +ℤ toZ w32 (ofZ w32 r))
+    next = byte-summed-more (sign-at signs j l) hv hr a b h
+
+    pub byte-summed-fits : SFits w32 (z +ℤ toZ w32 (ofZ w32 r))
+    byte-summed-fits = small-fits (z +ℤ toZ w32 (ofZ w32 r)) (omega (arith, next .most))
+
+    pub byte-summed-next : ByteSummed n f ps ss k (j + 1) (toZ w32 (ofZ w32 (z +ℤ toZ w32 (ofZ w32 r))))
+    byte-summed-next = rw (toZ-ofZ byte-summed-fits) next
 
   pub byte-summed-all : {j : ℕ} {z : ℤ} → length ss ≡ length ps → j ≤ length ps → length ps ≤ j → ByteSummed n f ps ss k j z → z ≡ turns n f ps ss k
   byte-summed-all {j} {z} paired le ge h = h .is ∙ ap (λ (i : ℕ). sum i (signedTurn n f ps ss k)) whole ∙ sym (turns-sum n f ps ss k paired)

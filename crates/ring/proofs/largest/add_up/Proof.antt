@@ -14,7 +14,7 @@ abbrev μ-loop : tie.MeasureT-loop
 μ-loop slots sum₀ i₀ sum i = length slots - i
 
 loop-holds : tie.Need-loop-holds Inv-loop μ-loop
-loop-holds c = adding-none (c .args .slots .now)
+loop-holds c = adding-none _
 
 add-sum : tie.Need-add-sum Inv-loop μ-loop
 add-sum c = omega (arith, c .before .before .before .pre .small .at (c .before .before .loop .i) (omega arith))

@@ -22,7 +22,7 @@ loop-again : tie.Need-loop-again Inv-loop μ-loop
 loop-again c = search (wrote-more, needs)
 
 returns : tie.Need-returns Inv-loop μ-loop
-returns c = wrote-all (c .before .loop .inv) (omega arith) ∙ zeros (length (c .before .before .args .slots .now))
+returns c = wrote-all (c .before .loop .inv) (omega arith) ∙ zeros _
 
 pub clear-spec : {M : Type 1} → statement M
 clear-spec =

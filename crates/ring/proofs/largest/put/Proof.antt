@@ -15,7 +15,7 @@ abbrev μ-loop : tie.MeasureT-loop
 μ-loop x slots₀ moving₀ i₀ slots moving i = length slots₀ - i
 
 loop-holds : tie.Need-loop-holds Inv-loop μ-loop
-loop-holds c = pushing-none (c .args .x) (c .args .slots .now)
+loop-holds c = pushing-none _ _
 
 loop-again : tie.Need-loop-again Inv-loop μ-loop
 loop-again c =

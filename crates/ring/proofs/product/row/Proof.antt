@@ -1,9 +1,9 @@
 -- `ring::product::row` meets its contract. Assumes nothing.
 use borrow.Author.Needs.{needs}
-use Prim.Native.Nat.{_+_}
-use native.Mathlib.Nat.{mod-lt}
 use native.Mathlib.Omega.{arith}
-use lib.ListN.{length-take}
+use mathlib.Core.Path.{sym}
+use lib.Seq.{length-take-le}
+use Rattle.ring.proofs.Numbers.{rest-fits}
 use Rattle.ring.proofs.ProductLaws.{above-fits, upto-fits, row-is}
 use Rattle.ring.proofs.product.row.Statement.{statement}
 use Rattle.ring.proofs.product.row.Tie as tie
@@ -12,22 +12,16 @@ fold-requires : tie.Need-fold-requires
 fold-requires c κs = search (above-fits, needs)
 
 slice-aggregate-fold : tie.Need-slice-aggregate-fold
-slice-aggregate-fold c =
-    let start = c .before .before .before .before .before .before in
-    omega (arith, length-take (start .args .k + 1) (start .args .a .now), start .pre .inside)
+slice-aggregate-fold c = sym (length-take-le _ _ (omega arith))
 
 slice-aggregate-fold-2 : tie.Need-slice-aggregate-fold-2
-slice-aggregate-fold-2 c =
-    let start = c .before .before .before .before .before .before .before in
-    omega (arith, length-take (start .args .k + 1) (start .args .b .now), start .pre .inside, start .pre .long)
+slice-aggregate-fold-2 c = sym (length-take-le _ _ (omega arith))
 
 fold-requires-2 : tie.Need-fold-requires-2
-fold-requires-2 c κs = upto-fits (c .before .before .before .before .before .before .before .pre) (omega (arith, c .before .before .fold .ensures .within))
+fold-requires-2 c κs = search (upto-fits, needs)
 
 cast-result : tie.Need-cast-result
-cast-result c =
-    let start = c .before .before .before .before .before .before .before .before in
-    omega (arith, mod-lt (c .fold2 .result) (start .pre .some), start .pre .small)
+cast-result c = search (rest-fits, needs)
 
 returns : tie.Need-returns
 returns c = search (row-is, needs)

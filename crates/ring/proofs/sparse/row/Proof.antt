@@ -2,9 +2,9 @@
 use borrow.Author.Needs.{needs}
 use native.Mathlib.Omega.{arith}
 use Prim.Native.Nat.{_-_, _≤_}
-use native.Mathlib.Nat.{mod-lt}
 use lib.ListN.{length}
 use Rattle.ring.specs.Lists.{naturals}
+use Rattle.ring.proofs.Numbers.{rest-fits}
 use Rattle.ring.proofs.SparseLaws.{Summed, summed-none, summed-more, summed-fits, summed-all, sign-at, sign-as-read, turned-at}
 use Rattle.ring.proofs.sparse.row.Statement.{statement}
 use Rattle.ring.proofs.sparse.row.Tie as tie
@@ -27,21 +27,14 @@ turned-requires c κs = search (turned-at, needs)
 by-sign-requires : tie.Need-by-sign-requires Inv-loop μ-loop
 by-sign-requires c κs = search (sign-as-read, sign-at, needs)
 
-cast-sum : tie.Need-cast-sum Inv-loop μ-loop
-cast-sum c = omega (arith, c .by-sign .ok)
-
 add-sum : tie.Need-add-sum Inv-loop μ-loop
-add-sum c =
-    let start = c .before .before .before .before .before .before .before .before in
-    record { fits = summed-fits (omega (arith, start .pre .few, c .before .before .before .before .loop-test .taken)) (start .fits .q .fits) (c .by-sign .ensures .within) (c .before .before .before .before .before .loop .inv .1) }
+add-sum c = search (summed-fits, needs)
 
 loop-again : tie.Need-loop-again Inv-loop μ-loop
 loop-again c = search (sign-at, summed-more, needs)
 
 cast-result : tie.Need-cast-result Inv-loop μ-loop
-cast-result c =
-    let start = c .before .before .before .before in
-    omega (arith, mod-lt (c .before .loop .sum) (start .pre .some), start .fits .q)
+cast-result c = search (rest-fits, needs)
 
 returns : tie.Need-returns Inv-loop μ-loop
 returns c = search (summed-all, needs)
@@ -59,7 +52,7 @@ row-spec =
     turned-requires
     (λ c. search needs)
     by-sign-requires
-    cast-sum
+    (λ c. search needs)
     add-sum
     (λ c. search needs)
     (λ c. search needs)
