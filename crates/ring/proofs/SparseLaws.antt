@@ -7,7 +7,7 @@ use native.Mathlib.Nat.{mod-lt, mul-one, mul-le-mul}
 use native.Mathlib.Numerals.{add-one}
 use native.Mathlib.Omega.{arith}
 use lib.ListN.{length, getD}
-use lib.IntN.{ℤ, pos, negsuc, negℤ, natAbs, _+ℤ_, _-ℤ_, _*ℤ_, +ℤ-idl}
+use lib.IntN.{ℤ, pos, negsuc, negℤ, natAbs, _+ℤ_, _-ℤ_, _*ℤ_}
 use mir.Syntax.{w8, w32}
 use mir.Val.{SFits, toZ, ofZ}
 use mir.Facts.{toZ-ofZ}
@@ -19,7 +19,7 @@ use Rattle.ring.specs.Product.{Poly, turn, turn-low, turn-high, mul}
 use Rattle.ring.specs.Lists.{naturals, signedBytes}
 use Rattle.ring.specs.Sparse.{turns, sparse, mul-sparse, Sign, Signed, sign-size}
 use Rattle.ring.specs.Asks.{Near, Turned, SparseRow, SparseProduct, ByteRow, ByteProduct}
-use Rattle.ring.proofs.Numbers.{small-fits}
+use Rattle.ring.proofs.Numbers.{small-fits, minus-read}
 
 -- ---- one turn, modulo q
 
@@ -130,14 +130,7 @@ module _ {q n : ℕ} {f : Poly} {ps : List ℕ} {ss : List ℤ} {k : ℕ} where
 
 -- ---- signed bytes
 
--- −z is 0 − z to the machine
-pub minus-fits : (z : ℤ) → SFits w32 z → natAbs z ≤ 128 → SFits w32 (pos 0 -ℤ toZ w32 (ofZ w32 z))
-minus-fits z f h = small-fits (pos 0 -ℤ toZ w32 (ofZ w32 z)) (rw (toZ-ofZ f, +ℤ-idl (negℤ z), abs-neg z) (omega arith))
-
-minus-read : (z : ℤ) → SFits w32 z → natAbs z ≤ 128 → toZ w32 (ofZ w32 (pos 0 -ℤ toZ w32 (ofZ w32 z))) ≡ negℤ z
-minus-read z f h = toZ-ofZ (minus-fits z f h) ∙ ap (λ (x : ℤ). pos 0 -ℤ x) (toZ-ofZ f) ∙ +ℤ-idl (negℤ z)
-
-pub signed-small : (b : ℕ) {r : ℤ} → b < 2 ^ 8 → r ≡ signed 8 b → natAbs r ≤ 128
+pub signed-small : (b : ℕ) {r : ℤ} → b < 2 ^ 8 → r ≡ signed 8 b → natAbs r < 2 ^ 31
 signed-small b l e = omega (arith, ap natAbs e, signed-size b l)
 
 -- coefficient k of xᵖ · s, from −128 to 128
@@ -147,7 +140,7 @@ byte-turn-low s p k r f b l e =
 
 pub byte-turn-high : (s : List ℕ) (p k : ℕ) (r : ℤ) → SFits w32 r → getD s (length s + k - p) 0 < 2 ^ 8 → k < p → r ≡ signed 8 (getD s (length s + k - p) 0) → (toZ w32 (ofZ w32 (pos 0 -ℤ toZ w32 (ofZ w32 r))) ≡ turn (length s) p (signedBytes s) k) × (natAbs (toZ w32 (ofZ w32 (pos 0 -ℤ toZ w32 (ofZ w32 r)))) ≤ 128)
 byte-turn-high s p k r f b l e =
-    rw (minus-read r f size) (ap negℤ e ∙ sym (turn-high (length s) p (signedBytes s) k l), omega (arith, abs-neg r, size))
+    rw (minus-read r f (omega (arith, size))) (ap negℤ e ∙ sym (turn-high (length s) p (signedBytes s) k l), omega (arith, abs-neg r, size))
   where
     size : natAbs r ≤ 128
     size = omega (arith, ap natAbs e, signed-size (getD s (length s + k - p) 0) b)
@@ -157,7 +150,7 @@ pub by-plus : (v s : ℤ) → SFits w32 v → s ≡ pos 1 → toZ w32 (ofZ w32 v
 by-plus v s f e = toZ-ofZ f ∙ rw e (omega (int, product-is (pos 1) v))
 
 pub by-minus : (v s : ℤ) → SFits w32 v → natAbs v ≤ 128 → s ≡ negsuc 0 → toZ w32 (ofZ w32 (pos 0 -ℤ toZ w32 (ofZ w32 v))) ≡ s *ℤ v
-by-minus v s f h e = minus-read v f h ∙ rw e (omega (int, product-is (negsuc 0) v, up-neg v, down-neg v))
+by-minus v s f h e = minus-read v f (omega arith) ∙ rw e (omega (int, product-is (negsuc 0) v, up-neg v, down-neg v))
 
 -- ---- exactly
 

@@ -1,11 +1,13 @@
 -- `ring::sparse::byte_by_sign` meets its contract. Assumes nothing.
 use borrow.Author.Needs.{needs}
-use Rattle.ring.proofs.SparseLaws.{by-plus, by-minus, minus-fits, is-plus, is-minus}
+use native.Mathlib.Omega.{arith}
+use Rattle.ring.proofs.Numbers.{minus-fits}
+use Rattle.ring.proofs.SparseLaws.{by-plus, by-minus, is-plus, is-minus}
 use Rattle.ring.proofs.sparse.byte_by_sign.Statement.{statement}
 use Rattle.ring.proofs.sparse.byte_by_sign.Tie as tie
 
 sub-result : tie.Need-sub-result
-sub-result c = search (minus-fits, needs)
+sub-result c = minus-fits (c .before .args .v) (c .before .fits .v) (omega arith)
 
 returns : tie.Need-returns
 returns c = search (by-plus, is-plus, needs)

@@ -2,7 +2,8 @@
 use borrow.Author.Needs.{needs, sfits-of}
 use Prim.Native.Nat.{_+_, _-_}
 use lib.ListN.{length, getD}
-use Rattle.ring.proofs.SparseLaws.{byte-turn-low, byte-turn-high, minus-fits, signed-small}
+use Rattle.ring.proofs.Numbers.{minus-fits}
+use Rattle.ring.proofs.SparseLaws.{byte-turn-low, byte-turn-high, signed-small}
 use Rattle.ring.proofs.sparse.turned_byte.Statement.{statement}
 use Rattle.ring.proofs.sparse.turned_byte.Tie as tie
 

@@ -1,11 +1,11 @@
--- `ring::sums::signed_byte` meets its contract. Assumes nothing.
+-- `ring::signed_byte` meets its contract. Assumes nothing.
 use borrow.Author.Needs.{needs}
 use mathlib.Core.Path.{_∙_}
 use native.Mathlib.Omega.{arith}
 use mir.Facts.{toZ-ofZ}
 use Rattle.ring.proofs.Numbers.{byte-word, byte-low, byte-high, byte-fits}
-use Rattle.ring.proofs.sums.signed_byte.Statement.{statement}
-use Rattle.ring.proofs.sums.signed_byte.Tie as tie
+use Rattle.ring.proofs.signed_byte.Statement.{statement}
+use Rattle.ring.proofs.signed_byte.Tie as tie
 
 sub-result : tie.Need-sub-result
 sub-result c = search (byte-word, byte-high, byte-fits, needs)
