@@ -118,6 +118,11 @@ pub wrote-list : {A : Type 0} (xs : List A) (d : A) {old : List A} {i : ℕ} {no
 wrote-list {A} xs d {old} w e =
     wrote-front (length xs) w e ∙ ap (λ (l : List A). l ++ drop (length xs) old) (sym (table-getD xs d))
 
+-- every place has an element of it
+pub wrote-whole : {A : Type 0} (xs : List A) (d : A) {old : List A} {i : ℕ} {now : List A} → Wrote (λ k. getD xs k d) old i now
+    → length xs ≡ length old → length now ≤ i → now ≡ xs
+wrote-whole xs d w e l = wrote-all w l ∙ ap (λ (n : ℕ). table n (λ k. getD xs k d)) (sym e) ∙ sym (table-getD xs d)
+
 -- every place has g of a list's element
 pub wrote-map : {A B : Type 0} (g : A → B) (xs : List A) (d : A) {old : List B} {i : ℕ} {now : List B} → Wrote (λ k. g (getD xs k d)) old i now
     → length old ≡ length xs → length xs ≤ i → now ≡ map g xs

@@ -3,15 +3,15 @@
 use mathlib.Core.List.{[], _∷_}
 use borrow.Author.Needs.{needs}
 use native.Mathlib.Omega.{arith}
-use Rattle.shake.proofs.Steps.{absorbing-none, absorbing-byte, absorbing-all, absorbed-is}
+use Rattle.shake.proofs.Steps.{absorbable-near, absorbing-none, absorbing-byte, absorbing-all, absorbed-is}
 use Rattle.shake.proofs.Sponge.absorb_byte.Statement.{statement}
 use Rattle.shake.proofs.Sponge.absorb_byte.Tie as tie
 
 xor-at-requires : tie.Need-xor-at-requires
-xor-at-requires c κs = absorbing-none _ (c .before .before .absorbable .ensures) [] .near
+xor-at-requires c κs = search (absorbable-near, needs)
 
 pass-requires : tie.Need-pass-requires
-pass-requires c κs = absorbing-none _ (c .before .before .before .before .absorbable .ensures) [] .near
+pass-requires c κs = search (absorbable-near, needs)
 
 returns : tie.Need-returns
 returns c =
