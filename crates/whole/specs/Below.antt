@@ -77,9 +77,6 @@ below-joined m (suc k) f h =
 pub record Within (m : ℕ) (zs : List ℤ) : Type 0 where
   pub at : (i : ℕ) → i < length zs → natAbs (getD zs i (pos 0)) ≤ m
 
-pub within-at : {m : ℕ} {zs : List ℤ} (i : ℕ) → Within m zs → i < length zs → natAbs (getD zs i (pos 0)) ≤ m
-within-at i w l = w .at i l
-
 pub within-more : {m k : ℕ} (zs : List ℤ) → m ≤ k → Within m zs → Within k zs
 within-more zs h w = record { at = λ i l. omega (arith, w .at i l) }
 

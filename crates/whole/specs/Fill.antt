@@ -1,65 +1,22 @@
--- A slice that a loop fills from the front: of `new` the first k stand in it, and from k on it is still the `old` one.
---     filled-none     before the first turn it is the old slice
---     filled-more     a store of new's element k at k makes one more of it
---     filled-all      once all of `new` stands in it, the rest is the old slice's
---     filled-whole    the same, where `new` is as long as the slice
---     length-filled   its length is the old slice's throughout
--- `Wrote` is the case where `new` is f 0, f 1, .., and `Mapping` the case where `new` has f of every element of a list, with the same laws.
+-- A slice that a loop fills from the front.
+--     Wrote          f stands at its first i places, and the old slice at the others
+--     wrote-none     before the first turn
+--     wrote-more     a store of f i at place i
+--     wrote-next     the same, where f i is made of what stood at place i
+--     wrote-ahead    what is still to be written is as it was
+--     wrote-front, wrote-all                after the last turn: the first n places are written, or every place
+--     wrote-list, wrote-whole, wrote-map    the same, where f gives the elements of a list, or g of each
+-- `filled` says it of a list in place of f, and `Mapping` of g of every element of a list.
 -- Assumes nothing.
 use mathlib.Core.Path.{_≡_, refl, sym, ap, _∙_}
 use mathlib.Core.List.{List, [], _∷_, _++_, map, append-nil}
 use Prim.Native.Nat.{ℕ, zero, suc, _+_, _≤_, _<_, zero-le}
 use native.Mathlib.Omega.{arith}
 use Rattle.whole.specs.Table.{row, table, length-table, table-suc, table-getD, map-table}
-use native.Mathlib.Nat.{add-zero, not-suc-le-zero, le-of-suc-le-suc, le-of-eq, le-antisymm, le-refl}
+use native.Mathlib.Nat.{add-zero, not-suc-le-zero, le-of-suc-le-suc, le-of-eq, le-antisymm}
 use native.Mathlib.Numerals.{add-one}
 use lib.ListN.{length, getD, take, drop, set, length-set, length-map, List·getD-map}
 use lib.Seq.{take-all, drop-length, drop-cons, set-at, append-snoc, getD-append-add, getD-drop}
-
-module _ {ℓ} {A : Type ℓ} where
-  unfoldable pub filled : ℕ → List A → List A → List A
-  filled k new old = take k new ++ drop k old
-
-  pub filled-none : (new old : List A) → old ≡ filled 0 new old
-  unfolding filled
-  filled-none new old = refl
-
-  store : (k : ℕ) (new old : List A) (d : A) → k < length new → k < length old
-      → set (take k new ++ drop k old) k (getD new k d) ≡ take (suc k) new ++ drop (suc k) old
-  store k [] old d h l = absurd (not-suc-le-zero h)
-  store k (x ∷ new) [] d h l = absurd (not-suc-le-zero l)
-  store zero (x ∷ new) (y ∷ old) d h l = refl
-  store (suc k) (x ∷ new) (y ∷ old) d h l = ap (λ (r : List A). x ∷ r) (store k new old d (le-of-suc-le-suc h) (le-of-suc-le-suc l))
-
-  pub filled-more : (k : ℕ) (new old : List A) (d v : A) → k < length new → k < length old → getD new k d ≡ v
-      → set (filled k new old) k v ≡ filled (k + 1) new old
-  unfolding filled
-  filled-more k new old d v h l e = rw (← e, add-one) (store k new old d h l)
-
-  pub filled-all : (k : ℕ) (new old : List A) → length new ≤ k → filled k new old ≡ new ++ drop k old
-  unfolding filled
-  filled-all k new old h = rw take-all
-
-  pub filled-whole : (new old : List A) → length new ≡ length old → filled (length old) new old ≡ new
-  unfolding filled
-  filled-whole new old e = rw (take-all (length old) new (le-of-eq e), drop-length old) (append-nil new)
-
-  pub length-filled : (k : ℕ) (new old : List A) → k ≤ length new → k ≤ length old → length (filled k new old) ≡ length old
-  unfolding filled
-  length-filled zero new old h l = refl
-  length-filled (suc k) [] old h l = absurd (not-suc-le-zero h)
-  length-filled (suc k) (x ∷ new) [] h l = absurd (not-suc-le-zero l)
-  length-filled (suc k) (x ∷ new) (y ∷ old) h l = ap suc (length-filled k new old (le-of-suc-le-suc h) (le-of-suc-le-suc l))
-
--- what is not filled yet
-pub getD-filled : {A : Type 0} (k : ℕ) (new old : List A) (j : ℕ) (d : A) → k ≤ length new → k ≤ length old → k ≤ j → getD (filled k new old) j d ≡ getD old j d
-unfolding filled
-getD-filled zero new old j d h m l = refl
-getD-filled (suc k) [] old j d h m l = absurd (not-suc-le-zero h)
-getD-filled (suc k) (x ∷ new) [] j d h m l = absurd (not-suc-le-zero m)
-getD-filled (suc k) (x ∷ new) (y ∷ old) zero d h m l = absurd (not-suc-le-zero l)
-getD-filled (suc k) (x ∷ new) (y ∷ old) (suc j) d h m l =
-    getD-filled k new old j d (le-of-suc-le-suc h) (le-of-suc-le-suc m) (le-of-suc-le-suc l)
 
 -- ---- what a loop has written: f i at place i, one place after another
 
@@ -131,6 +88,43 @@ wrote-map g xs d w e l =
     ∙ ap (λ (n : ℕ). table n (λ k. g (getD xs k d))) e
     ∙ sym (map-table g (length xs) (λ k. getD xs k d))
     ∙ ap (map g) (sym (table-getD xs d))
+
+-- ---- the same of a list
+
+module _ {ℓ} {A : Type ℓ} where
+  unfoldable pub filled : ℕ → List A → List A → List A
+  filled k new old = take k new ++ drop k old
+
+  pub filled-none : (new old : List A) → old ≡ filled 0 new old
+  unfolding filled
+  filled-none new old = refl
+
+  store : (k : ℕ) (new old : List A) (d : A) → k < length new → k < length old
+      → set (take k new ++ drop k old) k (getD new k d) ≡ take (suc k) new ++ drop (suc k) old
+  store k [] old d h l = absurd (not-suc-le-zero h)
+  store k (x ∷ new) [] d h l = absurd (not-suc-le-zero l)
+  store zero (x ∷ new) (y ∷ old) d h l = refl
+  store (suc k) (x ∷ new) (y ∷ old) d h l = ap (λ (r : List A). x ∷ r) (store k new old d (le-of-suc-le-suc h) (le-of-suc-le-suc l))
+
+  pub filled-more : (k : ℕ) (new old : List A) (d v : A) → k < length new → k < length old → getD new k d ≡ v
+      → set (filled k new old) k v ≡ filled (k + 1) new old
+  unfolding filled
+  filled-more k new old d v h l e = rw (← e, add-one) (store k new old d h l)
+
+  pub filled-all : (k : ℕ) (new old : List A) → length new ≤ k → filled k new old ≡ new ++ drop k old
+  unfolding filled
+  filled-all k new old h = rw take-all
+
+  pub filled-whole : (new old : List A) → length new ≡ length old → filled (length old) new old ≡ new
+  unfolding filled
+  filled-whole new old e = rw (take-all (length old) new (le-of-eq e), drop-length old) (append-nil new)
+
+  pub length-filled : (k : ℕ) (new old : List A) → k ≤ length new → k ≤ length old → length (filled k new old) ≡ length old
+  unfolding filled
+  length-filled zero new old h l = refl
+  length-filled (suc k) [] old h l = absurd (not-suc-le-zero h)
+  length-filled (suc k) (x ∷ new) [] h l = absurd (not-suc-le-zero l)
+  length-filled (suc k) (x ∷ new) (y ∷ old) h l = ap suc (length-filled k new old (le-of-suc-le-suc h) (le-of-suc-le-suc l))
 
 -- ---- a loop that writes f of every element of xs into a slice of the same length
 
