@@ -30,9 +30,6 @@ room : (c : tie.Then1 Inv-loop μ-loop)
     l .at < length (l .out)
 room c = search (unpacking-room, needs)
 
-loop-holds : tie.Need-loop-holds Inv-loop μ-loop
-loop-holds c = search (unpacking-none, needs)
-
 cast-above : tie.Need-cast-above Inv-loop μ-loop
 cast-above c = omega (arith, c .shared-slice-known2 .given (c .before .before .loop .k))
 
@@ -61,7 +58,7 @@ unpack-spec =
     (tie.spec
     Inv-loop
     μ-loop
-    loop-holds
+    (λ c. search (unpacking-none, needs))
     (λ c. omega arith)
     cast-above
     (λ c κs. omega arith)

@@ -17,9 +17,6 @@ Inv-loop lanes₀ p out₀ place₀ k₀ lanes out place k =
 abbrev μ-loop : tie.MeasureT-loop
 μ-loop lanes₀ p out₀ place₀ k₀ lanes out place k = length out₀ - k
 
-loop-holds : tie.Need-loop-holds Inv-loop μ-loop
-loop-holds c = search (squeezing-none, needs)
-
 loop-again : tie.Need-loop-again Inv-loop μ-loop
 loop-again c =
     let l = c .before .before .before .before .before .loop in
@@ -34,7 +31,7 @@ fill-spec =
     (tie.spec
     Inv-loop
     μ-loop
-    loop-holds
+    (λ c. search (squeezing-none, needs))
     (λ c κs. omega arith)
     (λ c. omega arith)
     (λ c κs. omega arith)

@@ -16,9 +16,6 @@ Inv-loop x b out₀ k₀ out k = Wrote (λ j. signed b (getD x j 0)) out₀ k ou
 abbrev μ-loop : tie.MeasureT-loop
 μ-loop x b out₀ k₀ out k = length x - k
 
-loop-holds : tie.Need-loop-holds Inv-loop μ-loop
-loop-holds c = search (wrote-none, needs)
-
 value-of-requires : tie.Need-value-of-requires Inv-loop μ-loop
 value-of-requires c κs = search (below-at, needs)
 
@@ -43,7 +40,7 @@ from-bits-spec =
     (tie.spec
     Inv-loop
     μ-loop
-    loop-holds
+    (λ c. search (wrote-none, needs))
     (λ c. omega arith)
     (λ c. omega arith)
     value-of-requires

@@ -17,9 +17,6 @@ Inv-loop z b out₀ k₀ out k = Wrote (λ j. twos b (getD z j (pos 0))) out₀ 
 abbrev μ-loop : tie.MeasureT-loop
 μ-loop z b out₀ k₀ out k = length z - k
 
-loop-holds : tie.Need-loop-holds Inv-loop μ-loop
-loop-holds c = wrote-none
-
 bits-of-requires : tie.Need-bits-of-requires Inv-loop μ-loop
 bits-of-requires c κs = search (bits-asked, needs)
 
@@ -45,7 +42,7 @@ to-bits-spec =
     (tie.spec
     Inv-loop
     μ-loop
-    loop-holds
+    (λ c. wrote-none)
     (λ c. omega arith)
     (λ c. omega arith)
     bits-of-requires

@@ -13,9 +13,6 @@ Inv-loop slots sum₀ i₀ sum i = Adding slots sum i
 abbrev μ-loop : tie.MeasureT-loop
 μ-loop slots sum₀ i₀ sum i = length slots - i
 
-loop-holds : tie.Need-loop-holds Inv-loop μ-loop
-loop-holds c = adding-none _
-
 add-sum : tie.Need-add-sum Inv-loop μ-loop
 add-sum c = omega (arith, c .before .before .before .pre .small .at (c .before .before .loop .i) (omega arith))
 
@@ -31,7 +28,7 @@ add-up-spec =
     (tie.spec
     Inv-loop
     μ-loop
-    loop-holds
+    (λ c. adding-none _)
     (λ c. omega arith)
     (λ c. omega arith)
     add-sum

@@ -15,9 +15,6 @@ Inv-loop slots₀ i₀ slots i = Wrote (λ k. 0) slots₀ i slots
 abbrev μ-loop : tie.MeasureT-loop
 μ-loop slots₀ i₀ slots i = length slots₀ - i
 
-loop-holds : tie.Need-loop-holds Inv-loop μ-loop
-loop-holds c = wrote-none
-
 loop-again : tie.Need-loop-again Inv-loop μ-loop
 loop-again c = search (wrote-more, needs)
 
@@ -30,7 +27,7 @@ clear-spec =
     (tie.spec
     Inv-loop
     μ-loop
-    loop-holds
+    (λ c. wrote-none)
     (λ c. omega arith)
     (λ c. omega arith)
     (λ c. omega arith)

@@ -12,9 +12,6 @@ Inv-loop e slots₀ k₀ slots k = Picked (length slots₀) e k slots
 abbrev μ-loop : tie.MeasureT-loop
 μ-loop e slots₀ k₀ slots k = k
 
-loop-holds : tie.Need-loop-holds Inv-loop μ-loop
-loop-holds c = search (picked-none, needs)
-
 loop-again : tie.Need-loop-again Inv-loop μ-loop
 loop-again c = search (picked-more, needs)
 
@@ -27,7 +24,7 @@ push-all-spec =
     (tie.spec
     Inv-loop
     μ-loop
-    loop-holds
+    (λ c. search (picked-none, needs))
     (λ c. omega arith)
     (λ c. omega arith)
     (λ c κs. tt)

@@ -14,9 +14,6 @@ Inv-loop x slots₀ moving₀ i₀ slots moving i = Pushing x slots₀ moving i 
 abbrev μ-loop : tie.MeasureT-loop
 μ-loop x slots₀ moving₀ i₀ slots moving i = length slots₀ - i
 
-loop-holds : tie.Need-loop-holds Inv-loop μ-loop
-loop-holds c = pushing-none _ _
-
 loop-again : tie.Need-loop-again Inv-loop μ-loop
 loop-again c =
     let here = c .before .before .before .loop in
@@ -32,7 +29,7 @@ put-spec =
     (tie.spec
     Inv-loop
     μ-loop
-    loop-holds
+    (λ c. pushing-none _ _)
     (λ c. omega arith)
     (λ c. omega arith)
     (λ c. search needs)

@@ -11,9 +11,6 @@ Inv-loop x y acc multiple n sum₀ i₀ sum i = (i ≤ n) × After multiple acc 
 abbrev μ-loop : tie.MeasureT-loop
 μ-loop x y acc multiple n sum₀ i₀ sum i = n - i
 
-loop-holds : tie.Need-loop-holds Inv-loop μ-loop
-loop-holds c = search (after-none, needs)
-
 added-requires : tie.Need-added-requires Inv-loop μ-loop
 added-requires c κs = search (next-fits, needs)
 
@@ -29,7 +26,7 @@ fold-spec =
     (tie.spec
     Inv-loop
     μ-loop
-    loop-holds
+    (λ c. search (after-none, needs))
     (λ c. search needs)
     (λ c. search needs)
     (λ c. search needs)

@@ -17,9 +17,6 @@ Inv-loop a b q out₀ multiple n k₀ out k = Wrote (λ j. residue q (mul (lengt
 abbrev μ-loop : tie.MeasureT-loop
 μ-loop a b q out₀ multiple n k₀ out k = n - k
 
-loop-holds : tie.Need-loop-holds Inv-loop μ-loop
-loop-holds c = wrote-none
-
 row-requires : tie.Need-row-requires Inv-loop μ-loop
 row-requires c κs = search (row-fits, needs)
 
@@ -39,7 +36,7 @@ multiply-spec =
     Inv-loop
     μ-loop
     (λ c κs. search needs)
-    loop-holds
+    (λ c. wrote-none)
     row-requires
     (λ c. search needs)
     (λ c. omega arith)

@@ -18,9 +18,6 @@ Inv-loop t q positions signs out₀ n k₀ out k = Wrote (λ j. residue q (mul (
 abbrev μ-loop : tie.MeasureT-loop
 μ-loop t q positions signs out₀ n k₀ out k = n - k
 
-loop-holds : tie.Need-loop-holds Inv-loop μ-loop
-loop-holds c = wrote-none
-
 row-requires : tie.Need-row-requires Inv-loop μ-loop
 row-requires c κs = search (sparse-row-fits, needs)
 
@@ -39,7 +36,7 @@ times-spec =
     (tie.spec
     Inv-loop
     μ-loop
-    loop-holds
+    (λ c. wrote-none)
     row-requires
     (λ c. search needs)
     (λ c. omega arith)

@@ -17,9 +17,6 @@ Inv-loop s positions signs out₀ n k₀ out k = Wrote (mul (length out₀) (sig
 abbrev μ-loop : tie.MeasureT-loop
 μ-loop s positions signs out₀ n k₀ out k = n - k
 
-loop-holds : tie.Need-loop-holds Inv-loop μ-loop
-loop-holds c = wrote-none
-
 byte-row-requires : tie.Need-byte-row-requires Inv-loop μ-loop
 byte-row-requires c κs = search (byte-row-fits, needs)
 
@@ -38,7 +35,7 @@ times-bytes-spec =
     (tie.spec
     Inv-loop
     μ-loop
-    loop-holds
+    (λ c. wrote-none)
     byte-row-requires
     (λ c. search needs)
     (λ c. omega arith)

@@ -18,9 +18,6 @@ Inv-loop t₀ e q i₀ t i = Wrote (λ k. residue q (naturals t₀ k +ℤ signed
 abbrev μ-loop : tie.MeasureT-loop
 μ-loop t₀ e q i₀ t i = length t₀ - i
 
-loop-holds : tie.Need-loop-holds Inv-loop μ-loop
-loop-holds c = wrote-none
-
 plus-byte-requires : tie.Need-plus-byte-requires Inv-loop μ-loop
 plus-byte-requires c κs = search (wrote-below, needs)
 
@@ -38,7 +35,7 @@ add-bytes-spec =
     (tie.spec
     Inv-loop
     μ-loop
-    loop-holds
+    (λ c. wrote-none)
     (λ c. omega arith)
     (λ c. omega arith)
     (λ c. omega arith)

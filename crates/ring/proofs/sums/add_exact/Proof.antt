@@ -18,9 +18,6 @@ Inv-loop y₀ x i₀ y i = Wrote (λ k. integers y₀ k +ℤ integers x k) y₀ 
 abbrev μ-loop : tie.MeasureT-loop
 μ-loop y₀ x i₀ y i = length y₀ - i
 
-loop-holds : tie.Need-loop-holds Inv-loop μ-loop
-loop-holds c = wrote-none
-
 add-y : tie.Need-add-y Inv-loop μ-loop
 add-y c = search (sum-fits, needs)
 
@@ -39,7 +36,7 @@ add-exact-spec =
     (tie.spec
     Inv-loop
     μ-loop
-    loop-holds
+    (λ c. wrote-none)
     (λ c. omega arith)
     (λ c. omega arith)
     (λ c. search needs)

@@ -18,9 +18,6 @@ Inv-loop z q out₀ i₀ out i = Wrote (λ k. residue q (integers z k)) out₀ i
 abbrev μ-loop : tie.MeasureT-loop
 μ-loop z q out₀ i₀ out i = length out₀ - i
 
-loop-holds : tie.Need-loop-holds Inv-loop μ-loop
-loop-holds c = wrote-none
-
 plus-requires : tie.Need-plus-requires Inv-loop μ-loop
 plus-requires c κs = search (more-at, needs)
 
@@ -38,7 +35,7 @@ residues-of-spec =
     (tie.spec
     Inv-loop
     μ-loop
-    loop-holds
+    (λ c. wrote-none)
     (λ c. omega arith)
     (λ c. omega arith)
     plus-requires

@@ -17,9 +17,6 @@ Inv-loop s q out₀ i₀ out i = Wrote (λ k. residue q (signedBytes s k)) out�
 abbrev μ-loop : tie.MeasureT-loop
 μ-loop s q out₀ i₀ out i = length out₀ - i
 
-loop-holds : tie.Need-loop-holds Inv-loop μ-loop
-loop-holds c = wrote-none
-
 loop-again : tie.Need-loop-again Inv-loop μ-loop
 loop-again c = wrote-more (c .before .before .before .loop .inv) (omega arith) (c .plus-byte .ensures ∙ rw +ℤ-idl)
 
@@ -32,7 +29,7 @@ residues-of-bytes-spec =
     (tie.spec
     Inv-loop
     μ-loop
-    loop-holds
+    (λ c. wrote-none)
     (λ c. omega arith)
     (λ c κs. search needs)
     (λ c. search needs)

@@ -17,9 +17,6 @@ Inv-loop a₀ b q i₀ a i = Wrote (λ k. residue q (naturals a₀ k -ℤ natura
 abbrev μ-loop : tie.MeasureT-loop
 μ-loop a₀ b q i₀ a i = length a₀ - i
 
-loop-holds : tie.Need-loop-holds Inv-loop μ-loop
-loop-holds c = wrote-none
-
 minus-requires : tie.Need-minus-requires Inv-loop μ-loop
 minus-requires c κs = search (taken-at, needs)
 
@@ -38,7 +35,7 @@ subtract-spec =
     (tie.spec
     Inv-loop
     μ-loop
-    loop-holds
+    (λ c. wrote-none)
     (λ c. omega arith)
     (λ c. omega arith)
     (λ c. search needs)

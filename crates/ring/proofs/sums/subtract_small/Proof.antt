@@ -18,9 +18,6 @@ Inv-loop v₀ x q i₀ v i = Wrote (λ k. residue q (naturals v₀ k -ℤ intege
 abbrev μ-loop : tie.MeasureT-loop
 μ-loop v₀ x q i₀ v i = length v₀ - i
 
-loop-holds : tie.Need-loop-holds Inv-loop μ-loop
-loop-holds c = wrote-none
-
 minus-small-requires : tie.Need-minus-small-requires Inv-loop μ-loop
 minus-small-requires c κs = search (less-at, needs)
 
@@ -41,7 +38,7 @@ subtract-small-spec =
     (tie.spec
     Inv-loop
     μ-loop
-    loop-holds
+    (λ c. wrote-none)
     (λ c. omega arith)
     (λ c. omega arith)
     (λ c. search needs)

@@ -17,9 +17,6 @@ Inv-loop w q d bound i₀ i = Passing (λ x. lowPasses q d bound (pos x)) w i
 abbrev μ-loop : tie.MeasureT-loop
 μ-loop w q d bound i₀ i = length w - i
 
-loop-holds : tie.Need-loop-holds Inv-loop μ-loop
-loop-holds c = passing-none _ _
-
 low-passes-requires : tie.Need-low-passes-requires Inv-loop μ-loop
 low-passes-requires c κs = search (below-at, needs)
 
@@ -38,7 +35,7 @@ all-low-spec =
     (tie.spec
     Inv-loop
     μ-loop
-    loop-holds
+    (λ c. passing-none _ _)
     (λ c. omega arith)
     (λ c. omega arith)
     low-passes-requires

@@ -17,9 +17,6 @@ Inv-loop w q bound j₀ j = Passing (λ x. sizePasses q bound (pos x)) w j
 abbrev μ-loop : tie.MeasureT-loop
 μ-loop w q bound j₀ j = length w - j
 
-loop-holds : tie.Need-loop-holds Inv-loop μ-loop
-loop-holds c = passing-none _ _
-
 size-passes-requires : tie.Need-size-passes-requires Inv-loop μ-loop
 size-passes-requires c κs = search (below-at, needs)
 
@@ -38,7 +35,7 @@ all-sized-spec =
     (tie.spec
     Inv-loop
     μ-loop
-    loop-holds
+    (λ c. passing-none _ _)
     (λ c. omega arith)
     (λ c. omega arith)
     size-passes-requires

@@ -31,9 +31,6 @@ as-read : (c : tie.After-high-of Inv-loop μ-loop)
     toZ w32 (ofZ w32 (c .high-of .result)) ≡ high (a .q) (a .d) (pos (getD (a .w .now) (c .before .before .before .loop .k) 0))
 as-read c = toZ-ofZ (sfits-of (c .high-of .ok)) ∙ c .high-of .ensures
 
-loop-holds : tie.Need-loop-holds Inv-loop μ-loop
-loop-holds c = (wrote-none, tested-none)
-
 high-of-requires : tie.Need-high-of-requires Inv-loop μ-loop
 high-of-requires c κs = search (below-at, needs)
 
@@ -54,7 +51,7 @@ high-bytes-spec =
     (tie.spec
     Inv-loop
     μ-loop
-    loop-holds
+    (λ c. (wrote-none, tested-none))
     (λ c. omega arith)
     (λ c. omega arith)
     high-of-requires

@@ -16,9 +16,6 @@ Inv-loop bytes lanes₀ place₀ i₀ lanes place i = (i ≤ length bytes) × Ab
 abbrev μ-loop : tie.MeasureT-loop
 μ-loop bytes lanes₀ place₀ i₀ lanes place i = length bytes - i
 
-loop-holds : tie.Need-loop-holds Inv-loop μ-loop
-loop-holds c = search (absorbing-none, needs)
-
 loop-again : tie.Need-loop-again Inv-loop μ-loop
 loop-again c =
     let head = c .before .before .before .before .before .before .loop in
@@ -34,7 +31,7 @@ absorb-spec =
     Inv-loop
     μ-loop
     (λ c κs. tt)
-    loop-holds
+    (λ c. search (absorbing-none, needs))
     (λ c. omega arith)
     (λ c κs. omega arith)
     (λ c κs. omega arith)
