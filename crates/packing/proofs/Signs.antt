@@ -74,7 +74,7 @@ module _ {b : ℕ} {z : ℤ} (p : ((0 < b) × (b < 32)) × InBits b z) where
 
 -- ---- what b bits stand for
 
-module _ (b x : ℕ) (p : ((0 < b) × (b < 32)) × (x < 2 ^ b)) where
+module _ {b x : ℕ} (p : ((0 < b) × (b < 32)) × (x < 2 ^ b)) where
   pub signed-fits : SFits w32 (signed b x)
   signed-fits = fits-i32 (p .0 .1) (signed-range b x (p .0 .0) (p .1))
 

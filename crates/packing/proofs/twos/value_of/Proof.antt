@@ -14,20 +14,16 @@ cast-result c = search (positive-fits, needs)
 
 sub-result : tie.Need-sub-result
 sub-result c =
-    let a = c .before .args in
-    subst⁻¹ (SFits w64) (lowered (a .b) (a .x) (c .before .pre) (c .if1 .left)) (sfits-widen {w = w32} tt (signed-fits (a .b) (a .x) (c .before .pre)))
+    subst⁻¹ (SFits w64) (lowered (c .before .pre) (c .if1 .left)) (sfits-widen {w = w32} tt (signed-fits (c .before .pre)))
 
 cast-result-4 : tie.Need-cast-result-4
-cast-result-4 c =
-    let a = c .before .args in
-    rw (toZ-ofZ (sub-result c), lowered (a .b) (a .x) (c .before .pre) (c .if1 .left)) (signed-fits (a .b) (a .x) (c .before .pre))
+cast-result-4 c = rw (toZ-ofZ (sub-result c), lowered (c .before .pre) (c .if1 .left)) (signed-fits (c .before .pre))
 
 returns : tie.Need-returns
 returns c = search (positive, needs)
 
 returns-2 : tie.Need-returns-2
-returns-2 c =
-    toZ-ofZ (cast-result-4 c) ∙ toZ-ofZ (sub-result c) ∙ lowered (c .before .args .b) (c .before .args .x) (c .before .pre) (c .if1 .left)
+returns-2 c = toZ-ofZ (cast-result-4 c) ∙ toZ-ofZ (sub-result c) ∙ lowered (c .before .pre) (c .if1 .left)
 
 pub value-of-spec : {M : Type 1} → statement M
 value-of-spec =
