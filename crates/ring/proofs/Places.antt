@@ -123,7 +123,12 @@ module _ {h : ℕ} {e : List ℕ} {k : ℕ} {now : List ℕ} (p : Picked h e k n
   -- one byte more, from the back
   pub picked-more : (x : ℕ) (after : List ℕ) → 0 < k → x ≡ natAbs (signed 8 (getD e (k - 1) 0)) → after ≡ push x now → Picked h e (k - 1) after
   unfolding places
-  picked-more x after l a b = record { within = omega (arith, p .within); long = ap length b ∙ length-push x now ∙ p .long; is = b ∙ ap₂ push a (p .is) ∙ sym (ap (λ (t : List ℕ). places h (sizes t)) front) }
+  picked-more x after l a b =
+      record {
+        within = omega (arith, p .within);
+        long = ap length b ∙ length-push x now ∙ p .long;
+        is = b ∙ ap₂ push a (p .is) ∙ sym (ap (λ (t : List ℕ). places h (sizes t)) front);
+      }
     where
       front : drop (k - 1) e ≡ getD e (k - 1) 0 ∷ drop k e
       front = drop-cons e (k - 1) 0 (omega (arith, p .within)) ∙ ap (λ (n : ℕ). getD e (k - 1) 0 ∷ drop n e) same

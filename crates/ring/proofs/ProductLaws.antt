@@ -194,7 +194,8 @@ module _ {q multiple : ℕ} {a b : List ℕ} {k : ℕ} (r : Row q multiple a b k
         most = r .whole .most;
       })
 
-  pub row-is : (w s : ℕ) → Kept multiple (0 + crossed (above k a) (above k b)) w → Kept multiple (multiple - w + crossed (upto k a) (upto k b)) s → s % q ≡ residue q (mul (length a) (naturals a) (naturals b) k)
+  pub row-is : (w s : ℕ) → Kept multiple (0 + crossed (above k a) (above k b)) w
+      → Kept multiple (multiple - w + crossed (upto k a) (upto k b)) s → s % q ≡ residue q (mul (length a) (naturals a) (naturals b) k)
   row-is w s kw ks =
       kept-residue q multiple (r .some) (r .whole) w (crossed (drop (suc k) a) (drop (suc k) b)) s (crossed (take (suc k) a) (take (suc k) b))
       (rw (above-is k a, above-is k b) at kw) (rw (upto-is k a, upto-is k b) at ks)

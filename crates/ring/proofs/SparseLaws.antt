@@ -106,7 +106,8 @@ module _ {q n : ℕ} {f : Poly} {ps : List ℕ} {ss : List ℤ} {k : ℕ} where
   unfolding sum
   summed-none = record { most = omega arith; same = same-refl q (pos 0) }
 
-  pub summed-more : {j s v r : ℕ} → Sign (getD ss j (pos 0)) → Near q (turn n (getD ps j 0) f k) v → Near q (toZ w8 (ofZ w8 (getD ss j (pos 0))) *ℤ pos v) r → Summed q n f ps ss k j s → Summed q n f ps ss k (j + 1) (s + r)
+  pub summed-more : {j s v r : ℕ} → Sign (getD ss j (pos 0)) → Near q (turn n (getD ps j 0) f k) v
+      → Near q (toZ w8 (ofZ w8 (getD ss j (pos 0))) *ℤ pos v) r → Summed q n f ps ss k j s → Summed q n f ps ss k (j + 1) (s + r)
   unfolding sum
   summed-more {j} {s} {v} {r} e a b h =
       record {
@@ -134,11 +135,13 @@ pub signed-small : (b : ℕ) {r : ℤ} → b < 2 ^ 8 → r ≡ signed 8 b → na
 signed-small b l e = omega (arith, ap natAbs e, signed-size b l)
 
 -- coefficient k of xᵖ · s, from −128 to 128
-pub byte-turn-low : (s : List ℕ) (p k : ℕ) (r : ℤ) → SFits w32 r → getD s (k - p) 0 < 2 ^ 8 → p ≤ k → r ≡ signed 8 (getD s (k - p) 0) → (toZ w32 (ofZ w32 r) ≡ turn (length s) p (signedBytes s) k) × (natAbs (toZ w32 (ofZ w32 r)) ≤ 128)
+pub byte-turn-low : (s : List ℕ) (p k : ℕ) (r : ℤ) → SFits w32 r → getD s (k - p) 0 < 2 ^ 8 → p ≤ k → r ≡ signed 8 (getD s (k - p) 0)
+    → (toZ w32 (ofZ w32 r) ≡ turn (length s) p (signedBytes s) k) × (natAbs (toZ w32 (ofZ w32 r)) ≤ 128)
 byte-turn-low s p k r f b l e =
     rw (toZ-ofZ f) (e ∙ sym (turn-low (length s) p (signedBytes s) k l), omega (arith, ap natAbs e, signed-size (getD s (k - p) 0) b))
 
-pub byte-turn-high : (s : List ℕ) (p k : ℕ) (r : ℤ) → SFits w32 r → getD s (length s + k - p) 0 < 2 ^ 8 → k < p → r ≡ signed 8 (getD s (length s + k - p) 0) → (toZ w32 (ofZ w32 (pos 0 -ℤ toZ w32 (ofZ w32 r))) ≡ turn (length s) p (signedBytes s) k) × (natAbs (toZ w32 (ofZ w32 (pos 0 -ℤ toZ w32 (ofZ w32 r)))) ≤ 128)
+pub byte-turn-high : (s : List ℕ) (p k : ℕ) (r : ℤ) → SFits w32 r → getD s (length s + k - p) 0 < 2 ^ 8 → k < p → r ≡ signed 8 (getD s (length s + k - p) 0)
+    → (toZ w32 (ofZ w32 (pos 0 -ℤ toZ w32 (ofZ w32 r))) ≡ turn (length s) p (signedBytes s) k) × (natAbs (toZ w32 (ofZ w32 (pos 0 -ℤ toZ w32 (ofZ w32 r)))) ≤ 128)
 byte-turn-high s p k r f b l e =
     rw (minus-read r f (omega (arith, size))) (ap negℤ e ∙ sym (turn-high (length s) p (signedBytes s) k l), omega (arith, abs-neg r, size))
   where
@@ -164,25 +167,24 @@ module _ {n : ℕ} {f : Poly} {ps : List ℕ} {ss : List ℤ} {k : ℕ} where
   unfolding sum
   byte-summed-none = record { most = omega arith; is = refl }
 
-  byte-summed-more : {j : ℕ} {z v r : ℤ} → Sign (getD ss j (pos 0)) → SFits w32 v → SFits w32 r → (v ≡ turn n (getD ps j 0) f k) × (natAbs v ≤ 128) → r ≡ toZ w8 (ofZ w8 (getD ss j (pos 0))) *ℤ toZ w32 (ofZ w32 v) → ByteSummed n f ps ss k j z → ByteSummed n f ps ss k (j + 1) (z +ℤ toZ w32 (ofZ w32 r))
-  unfolding sum
-  byte-summed-more {j} {z} {v} {r} e hv hr a b h = rw (toZ-ofZ hr) (record { most = size; is = rw (add-one j) (ap₂ _+ℤ_ (h .is) (term ∙ ap (λ (x : ℤ). getD ss j (pos 0) *ℤ x) (a .0))) })
-    where
-      term : r ≡ getD ss j (pos 0) *ℤ v
-      term = b ∙ ap₂ _*ℤ_ (sign-read e) (toZ-ofZ hv)
-
-      as-large : natAbs r ≡ natAbs v
-      as-large = ap natAbs term ∙ abs-product (getD ss j (pos 0)) v ∙ rw (sign-size e) (omega arith)
-
-      size : natAbs (z +ℤ r) ≤ 128 * (j + 1)
-      size = omega (arith, abs-sum z r, h .most, as-large, a .1)
-
   -- the term that the code adds: the sum fits, and is that of one term more
   module _ {j : ℕ} {z v r : ℤ} (signs : Signed n ps ss) (few : length ps < 2 ^ 16) (h : ByteSummed n f ps ss k j z) (l : j < length ps)
       (hv : SFits w32 v) (hr : SFits w32 r) (a : (v ≡ turn n (getD ps j 0) f k) × (natAbs v ≤ 128))
       (b : r ≡ toZ w8 (ofZ w8 (getD ss j (pos 0))) *ℤ toZ w32 (ofZ w32 v)) where
+    term : r ≡ getD ss j (pos 0) *ℤ v
+    term = b ∙ ap₂ _*ℤ_ (sign-read (sign-at signs j l)) (toZ-ofZ hv)
+
+    as-large : natAbs r ≡ natAbs v
+    as-large = ap natAbs term ∙ abs-product (getD ss j (pos 0)) v ∙ rw (sign-size (sign-at signs j l)) (omega arith)
+
     next : ByteSummed n f ps ss k (j + 1) (z +ℤ toZ w32 (ofZ w32 r))
-    next = byte-summed-more (sign-at signs j l) hv hr a b h
+    unfolding sum
+    next =
+        rw (toZ-ofZ hr)
+        (record {
+          most = omega (arith, abs-sum z r, h .most, as-large, a .1);
+          is = rw (add-one j) (ap₂ _+ℤ_ (h .is) (term ∙ ap (λ (x : ℤ). getD ss j (pos 0) *ℤ x) (a .0)));
+        })
 
     pub byte-summed-fits : SFits w32 (z +ℤ toZ w32 (ofZ w32 r))
     byte-summed-fits = small-fits (z +ℤ toZ w32 (ofZ w32 r)) (omega (arith, next .most))
@@ -212,7 +214,8 @@ module _ {s ps : List ℕ} {ss out : List ℤ} (h : ByteProduct s ps ss out) whe
   pub byte-row-fits : {k : ℕ} → k < length s → ByteRow s ps ss k
   byte-row-fits l = record { terms = h .terms; few = h .few; inside = l }
 
-  pub byte-row-of : {r : ℤ} (k : ℕ) → k < length s → SFits w32 r → r ≡ turns (length s) (signedBytes s) ps ss k → toZ w32 (ofZ w32 r) ≡ mul (length out) (signedBytes s) (sparse ps ss) k
+  pub byte-row-of : {r : ℤ} (k : ℕ) → k < length s → SFits w32 r → r ≡ turns (length s) (signedBytes s) ps ss k
+      → toZ w32 (ofZ w32 r) ≡ mul (length out) (signedBytes s) (sparse ps ss) k
   byte-row-of k l f e =
       toZ-ofZ f
       ∙ e
