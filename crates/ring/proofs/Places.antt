@@ -101,7 +101,7 @@ unfolding push
 length-push x [] = refl
 length-push x (p ∷ ps) = ap suc (length-push (min x p) ps)
 
-pub length-places : (h : ℕ) (xs : List ℕ) → length (places h xs) ≡ h
+length-places : (h : ℕ) (xs : List ℕ) → length (places h xs) ≡ h
 unfolding places
 length-places h [] = length-replicate h 0
 length-places h (x ∷ xs) = length-push x (places h xs) ∙ length-places h xs
@@ -150,12 +150,12 @@ push-below x [] h b = b
 push-below x (p ∷ ps) h b =
     below-cons (omega (arith, b .at 0 (omega arith))) (push-below (min x p) ps (omega arith) (below-tail b))
 
-pub places-below : {m : ℕ} (h : ℕ) (xs : List ℕ) → 0 < m → Below m xs → Below m (places h xs)
+places-below : {m : ℕ} (h : ℕ) (xs : List ℕ) → 0 < m → Below m xs → Below m (places h xs)
 unfolding places
 places-below h [] l b = below-zeros l h
 places-below h (x ∷ xs) l b = push-below x (places h xs) (b .at 0 (omega arith)) (places-below h xs l (below-tail b))
 
-pub sizes-below : (e : List ℕ) → Below 256 e → Below 129 (sizes e)
+sizes-below : (e : List ℕ) → Below 256 e → Below 129 (sizes e)
 unfolding signed
 sizes-below e b =
     record { at = λ i l. rw (List·getD-map (λ (y : ℕ). natAbs (signed 8 y)) e i 0) (omega (arith, signed-size (getD e i 0) (b .at i (omega (arith, length-map e (λ (y : ℕ). natAbs (signed 8 y))))))) }

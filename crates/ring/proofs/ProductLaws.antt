@@ -110,7 +110,7 @@ module _ (q multiple : ℕ) (some : 0 < q) (whole : Multiple q multiple) where
       is : pos (multiple - w + s) ≡ (pos s -ℤ pos w) +ℤ pos (q * whole .times)
       is = omega (int, whole .is, minus-is (pos s) (pos w), sum-is (pos s -ℤ pos w) (pos (q * whole .times)))
 
-  pub kept-residue : (w W s S : ℕ) → Kept multiple (0 + W) w → Kept multiple (multiple - w + S) s → s % q ≡ residue q (pos S -ℤ pos W)
+  kept-residue : (w W s S : ℕ) → Kept multiple (0 + W) w → Kept multiple (multiple - w + S) s → s % q ≡ residue q (pos S -ℤ pos W)
   kept-residue w W s S kw ks =
       sym (residue-is q (s % q) (pos S -ℤ pos W) (mod-lt s some) (same-sym (same-trans (same-sym reduced) all)))
     where

@@ -65,7 +65,7 @@ is-minus {s} (inl e) t = absurd (t (ap (ofZ w8) e))
 is-minus {s} (inr e) t = e
 
 -- a sign is read as it is
-pub sign-read : {s : ℤ} → Sign s → toZ w8 (ofZ w8 s) ≡ s
+sign-read : {s : ℤ} → Sign s → toZ w8 (ofZ w8 s) ≡ s
 sign-read {s} (inl e) = rw e
 sign-read {s} (inr e) = rw e
 

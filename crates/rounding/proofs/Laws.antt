@@ -147,7 +147,7 @@ same-size m z h = ⊎-elim inside at-half (lt-or-le (2 * up c) m)
               is = omega (int, up-neg c, down-neg c, sum-is c (negℤ (pos (m * 1))), up-neg (pos (m * 1)), down-neg (pos (m * 1)), mul-one m, central .most, no-down (one-part c));
             }
 
-pub low-size : (q d : ℕ) (v : ℤ) → natAbs (low q d v) ≡ natAbs (centred (2 ^ d) (pos (natAbs (centred q v))))
+low-size : (q d : ℕ) (v : ℤ) → natAbs (low q d v) ≡ natAbs (centred (2 ^ d) (pos (natAbs (centred q v))))
 unfolding low
 low-size q d v = go (centred q v)
   where
@@ -155,11 +155,11 @@ low-size q d v = go (centred q v)
     go (pos n) = refl
     go (negsuc n) = same-size (2 ^ d) (pos (suc n)) (pow-pos d)
 
-pub size-near : (m u : ℕ) → u % m ≤ m / 2 → natAbs (centred m (pos u)) ≡ u % m
+size-near : (m u : ℕ) → u % m ≤ m / 2 → natAbs (centred m (pos u)) ≡ u % m
 unfolding centred residue
 size-near m u h = rw (le-leb (u % m) (m / 2) h)
 
-pub size-far : (m u : ℕ) → 0 < m → m / 2 < u % m → natAbs (centred m (pos u)) ≡ m - u % m
+size-far : (m u : ℕ) → 0 < m → m / 2 < u % m → natAbs (centred m (pos u)) ≡ m - u % m
 unfolding centred residue
 size-far m u h k = rw (lt-leb (u % m) (m / 2) k) (⊎-elim (λ e. omega (arith, is, size, mod-lt u h)) (λ e. omega (arith, is, size, mod-lt u h)) (one-part y))
   where
