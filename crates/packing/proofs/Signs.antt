@@ -2,10 +2,12 @@
 -- Both are taken in an i64, where they fit.
 -- Assumes nothing.
 use mathlib.Core.Path.{_≡_, sym, ap, ap₂, _∙_}
+use mathlib.Core.List.{List}
 use mathlib.Core.Bool.{true, false, true≢false}
-use Prim.Native.Nat.{ℕ, _*_, _%_, _-_, _^_, _≤_, _<_}
+use Prim.Native.Nat.{ℕ, _+_, _*_, _%_, _-_, _^_, _≤_, _<_}
 use native.Mathlib.Omega.{arith}
 use lib.Pow.{pow-pos, pow-mono, pow-lt}
+use lib.ListN.{length, getD, set}
 use lib.IntN.{ℤ, pos, negsuc, _+ℤ_, _-ℤ_}
 use lib.Signed.{ltZ}
 use borrow.Author.Tests.{ltb-true}
@@ -15,7 +17,9 @@ use mir.Facts.{toZ-ofZ, toZ-pos}
 use Rattle.whole.specs.Int.{int, sum-is}
 use Rattle.whole.specs.Residue.{residue-lt, residue-small}
 use Rattle.whole.specs.Twos.{InBits, signed, twos, halves, signed-low, signed-high, twos-below, signed-range}
+use Rattle.whole.specs.Fill.{Wrote, wrote-more}
 use Rattle.whole.specs.Words.{read-i64, one-shifted}
+use Rattle.packing.specs.Twos.{ToBits}
 
 -- 2^b, as the code makes it
 power : (b : ℕ) → b < 32 → toZ w64 ((1 * 2 ^ b) % 2 ^ 64) ≡ pos (2 ^ b)
@@ -70,7 +74,7 @@ module _ {b : ℕ} {z : ℤ} (p : ((0 < b) × (b < 32)) × InBits b z) where
 
 -- ---- what b bits stand for
 
-module _ (b x : ℕ) (p : ((0 < b) × (b < 32)) × (x < 2 ^ b)) where
+module _ {b x : ℕ} (p : ((0 < b) × (b < 32)) × (x < 2 ^ b)) where
   pub signed-fits : SFits w32 (signed b x)
   signed-fits = fits-i32 (p .0 .1) (signed-range b x (p .0 .0) (p .1))
 
@@ -92,3 +96,17 @@ module _ (b x : ℕ) (p : ((0 < b) × (b < 32)) × (x < 2 ^ b)) where
 
     pub positive : toZ w32 x ≡ signed b x
     positive = toZ-pos w32 {n = x} small ∙ sym (signed-low b x (omega (arith, sign b (p .0))))
+
+-- ---- the numbers of a list
+
+-- number i, as it is read
+module _ {b i : ℕ} {zs : List ℤ} {out : List ℕ} (p : ToBits b zs out) (l : i < length zs) where
+  as-read : toZ w32 (ofZ w32 (getD zs i (pos 0))) ≡ getD zs i (pos 0)
+  as-read = toZ-ofZ (fits-i32 (p .narrow) (p .inside .at i l))
+
+  pub bits-asked : InBits b (toZ w32 (ofZ w32 (getD zs i (pos 0))))
+  bits-asked = rw as-read (p .inside .at i l)
+
+  pub bits-more : {now : List ℕ} {v : ℕ} → Wrote (λ k. twos b (getD zs k (pos 0))) out i now → v ≡ twos b (toZ w32 (ofZ w32 (getD zs i (pos 0))))
+      → Wrote (λ k. twos b (getD zs k (pos 0))) out (i + 1) (set now i v)
+  bits-more w e = wrote-more w (omega (arith, w .long, p .exact)) (e ∙ ap (twos b) as-read)

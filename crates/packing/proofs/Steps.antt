@@ -3,16 +3,17 @@
 -- Assumes nothing.
 use mathlib.Core.Path.{_≡_, sym, ap, _∙_}
 use mathlib.Core.List.{List, _++_}
-use Prim.Native.Nat.{ℕ, _+_, _-_, _*_, _/_, _%_, _^_, _≤_, _<_}
-use native.Mathlib.Nat.{le-trans, le-antisymm, le-of-eq, lt-of-lt-of-le, mul-le-mul-right, lt-of-mul-lt-mul-left, mul-zero, add-sub-of-le, sub-add-cancel, add-mul-mod-self-left, add-mul-div-left, div-one}
+use Prim.Native.Nat.{ℕ, _+_, _-_, _*_, _/_, _%_, _^_, _≤_, _<_, zero-le}
+use native.Mathlib.Nat.{mul-le-mul-right, lt-of-mul-lt-mul-left, mul-zero, add-sub-of-le, sub-add-cancel, add-mul-mod-self-left, add-mul-div-left, div-one}
 use native.Mathlib.Omega.{arith}
 use lib.ListN.{length, getD, drop, set}
 use lib.Arith.{digits-lt}
 use lib.Pow.{pow-pos, pow-add, shr-lt, shr-shr}
 use Rattle.whole.specs.Below.{below-any}
-use Rattle.whole.specs.Fill.{filled, filled-none, filled-more, filled-all, filled-whole, length-filled}
-use Rattle.packing.specs.Digits.{value, bytesFor, packed, unpacked, Packs, Unpacks}
-use Rattle.packing.specs.Laws.{digits-at, value-drop, packed-length, unpacked-length}
+use Rattle.whole.specs.Table.{table, table-is}
+use Rattle.whole.specs.Fill.{Wrote, wrote-none, wrote-more, wrote-front, wrote-all}
+use Rattle.packing.specs.Digits.{value, digits, bytesFor, packed, unpacked, Packs, Unpacks}
+use Rattle.packing.specs.Laws.{digits-at, digits-length, value-drop}
 
 -- ---- what is left
 
@@ -31,6 +32,13 @@ left-in w acc have i vs = rw (value-drop w i vs, pow-add) (omega arith)
 pub in-below : (w acc have v : ℕ) → acc < 2 ^ have → v < 2 ^ w → acc + 2 ^ have * v < 2 ^ (have + w)
 in-below w acc have v h l = rw pow-add (omega (arith, digits-lt l h))
 
+-- digit k of x at w bits, and the digits as a table of them
+abbrev pub digit : ℕ → ℕ → ℕ → ℕ
+digit w x k = x / 2 ^ (w * k) % 2 ^ w
+
+digits-table : (w n x : ℕ) → table n (digit w x) ≡ digits w n x
+digits-table w n x = sym (table-is n (digit w x) 0 (digits w n x) (digits-length w n x) (λ k l. digits-at w n x k l))
+
 -- u bits are taken out: where the digits of x at u bits are left from digit k on, they are digit k
 module _ (w acc have u : ℕ) (vs : List ℕ) (h : u ≤ have) where
   parted : left w acc have vs ≡ acc + 2 ^ u * (2 ^ (have - u) * value w vs)
@@ -39,7 +47,7 @@ module _ (w acc have u : ℕ) (vs : List ℕ) (h : u ≤ have) where
       let e : 2 ^ have ≡ 2 ^ u * 2 ^ (have - u) = ap (λ (k : ℕ). 2 ^ k) (sym (add-sub-of-le h)) ∙ pow-add 2 u (have - u) in
       rw e (omega arith)
 
-  out-digit : (x k : ℕ) → left w acc have vs ≡ x / 2 ^ (u * k) → x / 2 ^ (u * k) % 2 ^ u ≡ acc % 2 ^ u
+  out-digit : (x k : ℕ) → left w acc have vs ≡ x / 2 ^ (u * k) → acc % 2 ^ u ≡ digit u x k
   out-digit x k e = rw (← e, parted, add-mul-mod-self-left)
 
   out-rest : (x k : ℕ) → left w acc have vs ≡ x / 2 ^ (u * k) → left w (acc / 2 ^ u) (have - u) vs ≡ x / 2 ^ (u * (k + 1))
@@ -57,15 +65,11 @@ module _ (w acc have u : ℕ) (vs : List ℕ) (h : u ≤ have) where
 pub record Packing (b : ℕ) (vals old out : List ℕ) (acc have at k : ℕ) : Type 0 where
   pub bits : acc < 2 ^ have
   pub whole : left b acc have (drop at vals) ≡ value b vals / 2 ^ (8 * k)
-  pub done : out ≡ filled k (packed b vals) old
+  pub done : Wrote (digit 8 (value b vals)) old k out
 
 pub packing-none : (b : ℕ) (vals old : List ℕ) → Packing b vals old old 0 0 0 0
 packing-none b vals old =
-    record {
-      bits = pow-pos 0;
-      whole = left-none b vals ∙ sym (div-one (value b vals));
-      done = filled-none (packed b vals) old;
-    }
+    record { bits = pow-pos 0; whole = left-none b vals ∙ sym (div-one (value b vals)); done = wrote-none }
 
 module _ {b acc have at k : ℕ} {vals old out : List ℕ} (p : Packs b vals old) (s : Packing b vals old out acc have at k) where
   -- a value, or zeros where there is none left
@@ -81,24 +85,18 @@ module _ {b acc have at k : ℕ} {vals old out : List ℕ} (p : Packs b vals old
 
   pub packing-write : {v rest fewer : ℕ} → k < bytesFor b (length vals) → 8 ≤ have → v ≡ acc % 256 → rest ≡ acc / 256 → fewer + 8 ≡ have
       → Packing b vals old (set out k v) rest fewer at (k + 1)
-  unfolding packed
   packing-write {fewer = fewer} h l e₁ e₂ e₃ =
       let e₄ : fewer ≡ have - 8 = omega arith in
-      rw (e₁, e₂, e₄)
+      rw (e₂, e₄)
       (record {
         bits = out-below b acc have 8 (drop at vals) l (s .bits);
         whole = out-rest b acc have 8 (drop at vals) l (value b vals) k (s .whole);
-        done =
-            rw (s .done)
-            (filled-more k (packed b vals) old 0 (acc % 256) (rw packed-length h) (lt-of-lt-of-le h (p .room))
-            (digits-at 8 _ (value b vals) k h ∙ out-digit b acc have 8 (drop at vals) l (value b vals) k (s .whole)));
+        done = wrote-more (s .done) (omega (arith, p .room)) (e₁ ∙ out-digit b acc have 8 (drop at vals) l (value b vals) k (s .whole));
       })
 
-  pub packing-length : k ≤ bytesFor b (length vals) → length out ≡ length old
-  packing-length h = rw (s .done) (length-filled k (packed b vals) old (rw packed-length h) (le-trans h (p .room)))
-
   pub packing-all : k ≡ bytesFor b (length vals) → out ≡ packed b vals ++ drop (bytesFor b (length vals)) old
-  packing-all e = s .done ∙ rw e (filled-all _ (packed b vals) old (le-of-eq (packed-length b vals)))
+  unfolding packed
+  packing-all e = wrote-front (bytesFor b (length vals)) (s .done) e ∙ rw digits-table
 
 -- the bits of all values can be counted
 pub packing-few : {b : ℕ} {vals out : List ℕ} → Packs b vals out → b * length vals < 2 ^ 37
@@ -108,66 +106,51 @@ packing-few {vals = vals} p = omega (arith, mul-le-mul-right (length vals) (p .n
 
 -- the values before `at` are stored, and the bits that wait with the bytes from k on are the rest of the number
 pub record Unpacking (b : ℕ) (src old out : List ℕ) (acc have at k : ℕ) : Type 0 where
+  pub near : k ≤ length src
   pub bits : acc < 2 ^ have
   pub count : 8 * k ≡ b * at + have
   pub whole : left 8 acc have (drop k src) ≡ value 8 src / 2 ^ (b * at)
-  pub done : out ≡ filled at (unpacked b (length old) src) old
+  pub done : Wrote (digit b (value 8 src)) old at out
 
 pub unpacking-none : (b : ℕ) (src old : List ℕ) → Unpacking b src old old 0 0 0 0
 unpacking-none b src old =
-    record {
-      bits = pow-pos 0;
-      count = omega arith;
-      whole = left-none 8 src ∙ rw (mul-zero, div-one);
-      done = filled-none (unpacked b (length old) src) old;
-    }
+    record { near = zero-le; bits = pow-pos 0; count = omega arith; whole = left-none 8 src ∙ rw (mul-zero, div-one); done = wrote-none }
 
 module _ {b acc have at k : ℕ} {src old out : List ℕ} (s : Unpacking b src old out acc have at k) where
-  pub unpacking-read : {more : ℕ} → getD src k 0 < 256 → more ≡ acc + 2 ^ have * getD src k 0
+  pub unpacking-read : {more : ℕ} → k < length src → getD src k 0 < 256 → more ≡ acc + 2 ^ have * getD src k 0
       → Unpacking b src old out more (have + 8) at (k + 1)
-  unpacking-read l e =
+  unpacking-read h l e =
       rw e
       (record {
+        near = omega arith;
         bits = in-below 8 acc have (getD src k 0) (s .bits) l;
         count = omega arith;
         whole = sym (left-in 8 acc have k src) ∙ s .whole;
         done = s .done;
       })
 
-  pub unpacking-store : {v rest fewer : ℕ} → at < length old → b ≤ have → v ≡ acc % 2 ^ b → rest ≡ acc / 2 ^ b → fewer + b ≡ have
+  pub unpacking-store : {v rest fewer : ℕ} → at < length out → b ≤ have → v ≡ acc % 2 ^ b → rest ≡ acc / 2 ^ b → fewer + b ≡ have
       → Unpacking b src old (set out at v) rest fewer (at + 1) k
-  unfolding unpacked
   unpacking-store {fewer = fewer} h l e₁ e₂ e₃ =
       let e₄ : fewer ≡ have - b = omega arith in
-      rw (e₁, e₂, e₄)
+      rw (e₂, e₄)
       (record {
+        near = s .near;
         bits = out-below 8 acc have b (drop k src) l (s .bits);
         count = omega arith;
         whole = out-rest 8 acc have b (drop k src) l (value 8 src) at (s .whole);
-        done =
-            rw (s .done)
-            (filled-more at (unpacked b (length old) src) old 0 (acc % 2 ^ b) (rw unpacked-length h) h
-            (digits-at b (length old) (value 8 src) at h ∙ out-digit 8 acc have b (drop k src) l (value 8 src) at (s .whole)));
+        done = wrote-more (s .done) h (e₁ ∙ out-digit 8 acc have b (drop k src) l (value 8 src) at (s .whole));
       })
 
   -- the bytes hold no value more than there are places, and all of these
-  module _ (u : Unpacks b src old) (h : k ≤ length src) where
-    unpacking-near : at ≤ length old
-    unpacking-near =
-        let m : b * at < b * (length old + 1) = omega arith in
-        omega (arith, lt-of-mul-lt-mul-left b m)
-
-    pub unpacking-room : b ≤ have → at < length old
-    unpacking-room l =
+  module _ (u : Unpacks b src old) where
+    pub unpacking-room : k < length src → b ≤ have + 8 → at < length out
+    unpacking-room h l =
         let m : b * (at + 1) < b * (length old + 1) = omega arith in
         omega (arith, lt-of-mul-lt-mul-left b m)
 
-    pub unpacking-length : length out ≡ length old
-    unpacking-length =
-        rw (s .done) (length-filled at (unpacked b (length old) src) old (rw unpacked-length unpacking-near) unpacking-near)
-
     pub unpacking-all : length src ≤ k → have < b → out ≡ unpacked b (length old) src
+    unfolding unpacked
     unpacking-all e l =
         let m : b * length old < b * (at + 1) = omega arith in
-        let n : at ≡ length old = le-antisymm unpacking-near (omega (arith, lt-of-mul-lt-mul-left b m)) in
-        s .done ∙ rw n (filled-whole (unpacked b (length old) src) old (unpacked-length b (length old) src))
+        wrote-all (s .done) (omega (arith, lt-of-mul-lt-mul-left b m)) ∙ digits-table b (length old) (value 8 src)

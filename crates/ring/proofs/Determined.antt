@@ -9,8 +9,6 @@ use Rattle.ring.proofs.sparse.times.Kinds as times-kinds
 use Rattle.ring.proofs.sparse.times.Reads as times
 use Rattle.ring.proofs.sparse.times_bytes.Kinds as times-bytes-kinds
 use Rattle.ring.proofs.sparse.times_bytes.Reads as times-bytes
-use Rattle.ring.proofs.sums.signed_byte.Kinds as signed-byte-kinds
-use Rattle.ring.proofs.sums.signed_byte.Reads as signed-byte
 use Rattle.ring.proofs.sums.add_bytes.Kinds as add-bytes-kinds
 use Rattle.ring.proofs.sums.add_bytes.Reads as add-bytes
 use Rattle.ring.proofs.sums.subtract_small.Kinds as subtract-small-kinds
@@ -23,10 +21,6 @@ use Rattle.ring.proofs.sums.residues_of.Kinds as residues-of-kinds
 use Rattle.ring.proofs.sums.residues_of.Reads as residues-of
 use Rattle.ring.proofs.sums.residues_of_bytes.Kinds as residues-of-bytes-kinds
 use Rattle.ring.proofs.sums.residues_of_bytes.Reads as residues-of-bytes
-use Rattle.ring.proofs.largest.size_of.Kinds as size-of-kinds
-use Rattle.ring.proofs.largest.size_of.Reads as size-of
-use Rattle.ring.proofs.largest.largest_sum.Kinds as largest-sum-kinds
-use Rattle.ring.proofs.largest.largest_sum.Reads as largest-sum
 use Rattle.ring.proofs.largest.sum_passes.Kinds as sum-passes-kinds
 use Rattle.ring.proofs.largest.sum_passes.Reads as sum-passes
 
@@ -38,9 +32,6 @@ times-determined κs a x y e f p q = p ∙ sym q
 
 pub times-bytes-determined : Output 4 times-bytes-kinds.ps times-bytes-kinds.r times-bytes.Learnt (λ κs e. now (e .1 .1 .1 .0))
 times-bytes-determined κs a x y e f p q = p ∙ sym q
-
-pub signed-byte-determined : Result 0 signed-byte-kinds.ps signed-byte-kinds.r signed-byte.Learnt
-signed-byte-determined κs a x y e f p q = p ∙ sym q
 
 pub add-bytes-determined : Output 2 add-bytes-kinds.ps add-bytes-kinds.r add-bytes.Learnt (λ κs e. now (e .0))
 add-bytes-determined κs a x y e f p q = p ∙ sym q
@@ -59,15 +50,6 @@ residues-of-determined κs a x y e f p q = p ∙ sym q
 
 pub residues-of-bytes-determined : Output 2 residues-of-bytes-kinds.ps residues-of-bytes-kinds.r residues-of-bytes.Learnt (λ κs e. now (e .1 .1 .0))
 residues-of-bytes-determined κs a x y e f p q = p ∙ sym q
-
-pub size-of-determined : Result 0 size-of-kinds.ps size-of-kinds.r size-of.Learnt
-size-of-determined κs a x y e f p q = p ∙ sym q
-
-pub largest-sum-determined : Result 2 largest-sum-kinds.ps largest-sum-kinds.r largest-sum.Learnt
-largest-sum-determined κs a x y e f p q = p .0 ∙ sym (q .0)
-
-pub largest-sum-places-determined : Output 2 largest-sum-kinds.ps largest-sum-kinds.r largest-sum.Learnt (λ κs e. now (e .1 .0))
-largest-sum-places-determined κs a x y e f p q = p .1 ∙ sym (q .1)
 
 pub sum-passes-determined : Result 2 sum-passes-kinds.ps sum-passes-kinds.r sum-passes.Learnt
 sum-passes-determined κs a x y e f p q = p .0 ∙ sym (q .0)

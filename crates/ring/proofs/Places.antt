@@ -5,7 +5,7 @@ use mathlib.Core.List.{List, [], _∷_, _++_}
 use Prim.Native.Nat.{ℕ, suc, _+_, _*_, _-_, _≤_, _<_, min, max}
 use native.Mathlib.Numerals.{add-one}
 use native.Mathlib.Omega.{arith}
-use lib.ListN.{length, getD, drop, set, replicate, length-append, length-drop, length-replicate, getD-replicate, length-map, List·getD-map, drop-of-length-le}
+use lib.ListN.{length, getD, drop, set, replicate, length-set, length-append, length-replicate, getD-replicate, length-map, List·getD-map, drop-of-length-le}
 use lib.Seq.{drop-cons, drop-length, append-snoc, set-at, getD-at, set-getD}
 use lib.Dec.{lit<}
 use lib.IntN.{natAbs}
@@ -19,24 +19,21 @@ use Rattle.ring.specs.Largest.{push, places, added, sizes, Cleared, Few,
 -- `head` stands at the first i places and `old` at the others, into which m is still to be pushed
 pub record Pushing (x : ℕ) (old : List ℕ) (m i : ℕ) (now : List ℕ) : Type 0 where
   pub head : List ℕ
-  pub long : length head ≡ i
-  pub within : i ≤ length old
+  pub long : length now ≡ length old
+  pub first : length head ≡ i
   pub is : now ≡ head ++ drop i old
   pub left : head ++ push m (drop i old) ≡ push x old
 
 pub pushing-none : (x : ℕ) (old : List ℕ) → Pushing x old x 0 old
-pushing-none x old = record { head = []; long = refl; within = omega arith; is = refl; left = refl }
+pushing-none x old = record { head = []; long = refl; first = refl; is = refl; left = refl }
 
 module _ {x : ℕ} {old : List ℕ} {m i : ℕ} {now : List ℕ} (p : Pushing x old m i now) where
-  pub pushing-long : length now ≡ length old
-  pushing-long = rw (p .is) (simp (length-append, length-drop) (omega (arith, p .long, p .within)))
-
   module _ (l : i < length now) where
     next : drop i old ≡ getD old i 0 ∷ drop (suc i) old
-    next = drop-cons old i 0 (omega (arith, pushing-long))
+    next = drop-cons old i 0 (omega (arith, p .long))
 
     here : getD now i 0 ≡ getD old i 0
-    here = rw (p .is, next) (getD-at (p .head) (getD old i 0) (drop (suc i) old) 0 i (p .long))
+    here = rw (p .is, next) (getD-at (p .head) (getD old i 0) (drop (suc i) old) 0 i (p .first))
 
     -- the larger stays, the smaller moves on
     pub pushing-more : (v w : ℕ) → v ≡ max m (getD now i 0) → w ≡ min m (getD now i 0) → Pushing x old w (i + 1) (set now i v)
@@ -44,11 +41,11 @@ module _ {x : ℕ} {old : List ℕ} {m i : ℕ} {now : List ℕ} (p : Pushing x 
     pushing-more v w e f =
         record {
           head = p .head ++ (v ∷ []);
-          long = simp length-append (omega (arith, p .long));
-          within = omega (arith, pushing-long);
+          long = length-set now i v ∙ p .long;
+          first = simp length-append (omega (arith, p .first));
           is =
               ap (λ (t : List ℕ). set t i v) (p .is ∙ ap (λ (t : List ℕ). p .head ++ t) next)
-              ∙ set-at (p .head) (getD old i 0) (drop (suc i) old) v i (p .long)
+              ∙ set-at (p .head) (getD old i 0) (drop (suc i) old) v i (p .first)
               ∙ sym (append-snoc (p .head) v (drop (suc i) old))
               ∙ ap (λ (n : ℕ). p .head ++ (v ∷ []) ++ drop n old) (sym (add-one i));
           left =
@@ -69,7 +66,7 @@ module _ {x : ℕ} {old : List ℕ} {m i : ℕ} {now : List ℕ} (p : Pushing x 
   pushing-all l = p .is ∙ ap (λ (t : List ℕ). p .head ++ t) none ∙ p .left
     where
       end : drop i old ≡ []
-      end = drop-of-length-le old {i = i} (omega (arith, pushing-long))
+      end = drop-of-length-le old {i = i} (omega (arith, p .long))
 
       none : drop i old ≡ push m (drop i old)
       none = rw end
@@ -104,7 +101,7 @@ unfolding push
 length-push x [] = refl
 length-push x (p ∷ ps) = ap suc (length-push (min x p) ps)
 
-pub length-places : (h : ℕ) (xs : List ℕ) → length (places h xs) ≡ h
+length-places : (h : ℕ) (xs : List ℕ) → length (places h xs) ≡ h
 unfolding places
 length-places h [] = length-replicate h 0
 length-places h (x ∷ xs) = length-push x (places h xs) ∙ length-places h xs
@@ -112,23 +109,26 @@ length-places h (x ∷ xs) = length-push x (places h xs) ∙ length-places h xs
 -- the places hold what the bytes from k on leave in them
 pub record Picked (h : ℕ) (e : List ℕ) (k : ℕ) (now : List ℕ) : Type 0 where
   pub within : k ≤ length e
+  pub long : length now ≡ h
   pub is : now ≡ places h (sizes (drop k e))
 
 pub picked-none : {ps : List ℕ} (e : List ℕ) → Cleared ps → Picked (length ps) e (length e) ps
 unfolding places
-picked-none {ps} e c = record { within = omega arith; is = c .zeros ∙ sym none }
+picked-none {ps} e c = record { within = omega arith; long = refl; is = c .zeros ∙ sym none }
   where
     none : places (length ps) (sizes (drop (length e) e)) ≡ replicate (length ps) 0
     none = rw (drop-length e)
 
 module _ {h : ℕ} {e : List ℕ} {k : ℕ} {now : List ℕ} (p : Picked h e k now) where
-  pub picked-long : length now ≡ h
-  picked-long = ap length (p .is) ∙ length-places h (sizes (drop k e))
-
   -- one byte more, from the back
   pub picked-more : (x : ℕ) (after : List ℕ) → 0 < k → x ≡ natAbs (signed 8 (getD e (k - 1) 0)) → after ≡ push x now → Picked h e (k - 1) after
   unfolding places
-  picked-more x after l a b = record { within = omega (arith, p .within); is = b ∙ ap₂ push a (p .is) ∙ sym (ap (λ (t : List ℕ). places h (sizes t)) front) }
+  picked-more x after l a b =
+      record {
+        within = omega (arith, p .within);
+        long = ap length b ∙ length-push x now ∙ p .long;
+        is = b ∙ ap₂ push a (p .is) ∙ sym (ap (λ (t : List ℕ). places h (sizes t)) front);
+      }
     where
       front : drop (k - 1) e ≡ getD e (k - 1) 0 ∷ drop k e
       front = drop-cons e (k - 1) 0 (omega (arith, p .within)) ∙ ap (λ (n : ℕ). getD e (k - 1) 0 ∷ drop n e) same
@@ -150,12 +150,12 @@ push-below x [] h b = b
 push-below x (p ∷ ps) h b =
     below-cons (omega (arith, b .at 0 (omega arith))) (push-below (min x p) ps (omega arith) (below-tail b))
 
-pub places-below : {m : ℕ} (h : ℕ) (xs : List ℕ) → 0 < m → Below m xs → Below m (places h xs)
+places-below : {m : ℕ} (h : ℕ) (xs : List ℕ) → 0 < m → Below m xs → Below m (places h xs)
 unfolding places
 places-below h [] l b = below-zeros l h
 places-below h (x ∷ xs) l b = push-below x (places h xs) (b .at 0 (omega arith)) (places-below h xs l (below-tail b))
 
-pub sizes-below : (e : List ℕ) → Below 256 e → Below 129 (sizes e)
+sizes-below : (e : List ℕ) → Below 256 e → Below 129 (sizes e)
 unfolding signed
 sizes-below e b =
     record { at = λ i l. rw (List·getD-map (λ (y : ℕ). natAbs (signed 8 y)) e i 0) (omega (arith, signed-size (getD e i 0) (b .at i (omega (arith, length-map e (λ (y : ℕ). natAbs (signed 8 y))))))) }

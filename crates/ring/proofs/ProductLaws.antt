@@ -110,7 +110,7 @@ module _ (q multiple : ℕ) (some : 0 < q) (whole : Multiple q multiple) where
       is : pos (multiple - w + s) ≡ (pos s -ℤ pos w) +ℤ pos (q * whole .times)
       is = omega (int, whole .is, minus-is (pos s) (pos w), sum-is (pos s -ℤ pos w) (pos (q * whole .times)))
 
-  pub kept-residue : (w W s S : ℕ) → Kept multiple (0 + W) w → Kept multiple (multiple - w + S) s → s % q ≡ residue q (pos S -ℤ pos W)
+  kept-residue : (w W s S : ℕ) → Kept multiple (0 + W) w → Kept multiple (multiple - w + S) s → s % q ≡ residue q (pos S -ℤ pos W)
   kept-residue w W s S kw ks =
       sym (residue-is q (s % q) (pos S -ℤ pos W) (mod-lt s some) (same-sym (same-trans (same-sym reduced) all)))
     where
@@ -182,19 +182,20 @@ module _ {q multiple : ℕ} {a b : List ℕ} {k : ℕ} (r : Row q multiple a b k
         most = r .whole .most;
       })
 
-  pub upto-fits : {s : ℕ} → s ≤ multiple → Foldable multiple s (upto k a) (upto k b)
-  upto-fits {s} h =
+  pub upto-fits : {z w : ℕ} → Kept multiple z w → Foldable multiple (multiple - w) (upto k a) (upto k b)
+  upto-fits h =
       rw (upto-is k a, upto-is k b)
       (record {
         long = omega (arith, length-take (suc k) a, length-take (suc k) b, r .long);
         x-below = below-take (2 ^ 31) (suc k) a (below-more a (r .small) (r .a-below));
         y-below = below-take (2 ^ 31) (suc k) b (below-more b (r .small) (r .b-below));
-        start = h;
+        start = omega arith;
         least = r .whole .least;
         most = r .whole .most;
       })
 
-  pub row-is : (w s : ℕ) → Kept multiple (0 + crossed (above k a) (above k b)) w → Kept multiple (multiple - w + crossed (upto k a) (upto k b)) s → s % q ≡ residue q (mul (length a) (naturals a) (naturals b) k)
+  pub row-is : (w s : ℕ) → Kept multiple (0 + crossed (above k a) (above k b)) w
+      → Kept multiple (multiple - w + crossed (upto k a) (upto k b)) s → s % q ≡ residue q (mul (length a) (naturals a) (naturals b) k)
   row-is w s kw ks =
       kept-residue q multiple (r .some) (r .whole) w (crossed (drop (suc k) a) (drop (suc k) b)) s (crossed (take (suc k) a) (take (suc k) b))
       (rw (above-is k a, above-is k b) at kw) (rw (upto-is k a, upto-is k b) at ks)

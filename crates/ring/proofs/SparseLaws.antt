@@ -7,7 +7,7 @@ use native.Mathlib.Nat.{mod-lt, mul-one, mul-le-mul}
 use native.Mathlib.Numerals.{add-one}
 use native.Mathlib.Omega.{arith}
 use lib.ListN.{length, getD}
-use lib.IntN.{ℤ, pos, negsuc, negℤ, natAbs, _+ℤ_, _-ℤ_, _*ℤ_, +ℤ-idl}
+use lib.IntN.{ℤ, pos, negsuc, negℤ, natAbs, _+ℤ_, _-ℤ_, _*ℤ_}
 use mir.Syntax.{w8, w32}
 use mir.Val.{SFits, toZ, ofZ}
 use mir.Facts.{toZ-ofZ}
@@ -19,7 +19,7 @@ use Rattle.ring.specs.Product.{Poly, turn, turn-low, turn-high, mul}
 use Rattle.ring.specs.Lists.{naturals, signedBytes}
 use Rattle.ring.specs.Sparse.{turns, sparse, mul-sparse, Sign, Signed, sign-size}
 use Rattle.ring.specs.Asks.{Near, Turned, SparseRow, SparseProduct, ByteRow, ByteProduct}
-use Rattle.ring.proofs.Numbers.{small-fits}
+use Rattle.ring.proofs.Numbers.{small-fits, minus-read}
 
 -- ---- one turn, modulo q
 
@@ -65,7 +65,7 @@ is-minus {s} (inl e) t = absurd (t (ap (ofZ w8) e))
 is-minus {s} (inr e) t = e
 
 -- a sign is read as it is
-pub sign-read : {s : ℤ} → Sign s → toZ w8 (ofZ w8 s) ≡ s
+sign-read : {s : ℤ} → Sign s → toZ w8 (ofZ w8 s) ≡ s
 sign-read {s} (inl e) = rw e
 sign-read {s} (inr e) = rw e
 
@@ -106,7 +106,8 @@ module _ {q n : ℕ} {f : Poly} {ps : List ℕ} {ss : List ℤ} {k : ℕ} where
   unfolding sum
   summed-none = record { most = omega arith; same = same-refl q (pos 0) }
 
-  pub summed-more : {j s v r : ℕ} → Sign (getD ss j (pos 0)) → Near q (turn n (getD ps j 0) f k) v → Near q (toZ w8 (ofZ w8 (getD ss j (pos 0))) *ℤ pos v) r → Summed q n f ps ss k j s → Summed q n f ps ss k (j + 1) (s + r)
+  pub summed-more : {j s v r : ℕ} → Sign (getD ss j (pos 0)) → Near q (turn n (getD ps j 0) f k) v
+      → Near q (toZ w8 (ofZ w8 (getD ss j (pos 0))) *ℤ pos v) r → Summed q n f ps ss k j s → Summed q n f ps ss k (j + 1) (s + r)
   unfolding sum
   summed-more {j} {s} {v} {r} e a b h =
       record {
@@ -114,8 +115,8 @@ module _ {q n : ℕ} {f : Poly} {ps : List ℕ} {ss : List ℤ} {k : ℕ} where
         same = rw (add-one j) (same-add (h .same) (same-trans (rw (sign-read e) at (b .same)) (same-mul (same-refl q (getD ss j (pos 0))) (a .same))));
       }
 
-  pub summed-fits : {j s r : ℕ} → j < 2 ^ 16 → q < 2 ^ 32 → r ≤ q → Summed q n f ps ss k j s → s + r < 2 ^ 64
-  summed-fits {j} {s} {r} few small l h =
+  pub summed-fits : {j s r : ℕ} → Summed q n f ps ss k j s → j < length ps → length ps < 2 ^ 16 → q < 2 ^ 32 → r ≤ q → s + r < 2 ^ 64
+  summed-fits {j} {s} {r} h inside few small l =
       omega (arith, h .most, mul-le-mul {n₁ = j} {m₁ = q} {n₂ = 2 ^ 16} {m₂ = 2 ^ 32} (omega arith) (omega arith))
 
   pub summed-all : {j s : ℕ} → 0 < q → length ss ≡ length ps → j ≤ length ps → length ps ≤ j → Summed q n f ps ss k j s → s % q ≡ residue q (turns n f ps ss k)
@@ -130,24 +131,19 @@ module _ {q n : ℕ} {f : Poly} {ps : List ℕ} {ss : List ℤ} {k : ℕ} where
 
 -- ---- signed bytes
 
--- −z is 0 − z to the machine
-pub minus-fits : (z : ℤ) → SFits w32 z → natAbs z ≤ 128 → SFits w32 (pos 0 -ℤ toZ w32 (ofZ w32 z))
-minus-fits z f h = small-fits (pos 0 -ℤ toZ w32 (ofZ w32 z)) (rw (toZ-ofZ f, +ℤ-idl (negℤ z), abs-neg z) (omega arith))
-
-minus-read : (z : ℤ) → SFits w32 z → natAbs z ≤ 128 → toZ w32 (ofZ w32 (pos 0 -ℤ toZ w32 (ofZ w32 z))) ≡ negℤ z
-minus-read z f h = toZ-ofZ (minus-fits z f h) ∙ ap (λ (x : ℤ). pos 0 -ℤ x) (toZ-ofZ f) ∙ +ℤ-idl (negℤ z)
-
-pub signed-small : (b : ℕ) {r : ℤ} → b < 2 ^ 8 → r ≡ signed 8 b → natAbs r ≤ 128
+pub signed-small : (b : ℕ) {r : ℤ} → b < 2 ^ 8 → r ≡ signed 8 b → natAbs r < 2 ^ 31
 signed-small b l e = omega (arith, ap natAbs e, signed-size b l)
 
 -- coefficient k of xᵖ · s, from −128 to 128
-pub byte-turn-low : (s : List ℕ) (p k : ℕ) (r : ℤ) → SFits w32 r → getD s (k - p) 0 < 2 ^ 8 → p ≤ k → r ≡ signed 8 (getD s (k - p) 0) → (toZ w32 (ofZ w32 r) ≡ turn (length s) p (signedBytes s) k) × (natAbs (toZ w32 (ofZ w32 r)) ≤ 128)
+pub byte-turn-low : (s : List ℕ) (p k : ℕ) (r : ℤ) → SFits w32 r → getD s (k - p) 0 < 2 ^ 8 → p ≤ k → r ≡ signed 8 (getD s (k - p) 0)
+    → (toZ w32 (ofZ w32 r) ≡ turn (length s) p (signedBytes s) k) × (natAbs (toZ w32 (ofZ w32 r)) ≤ 128)
 byte-turn-low s p k r f b l e =
     rw (toZ-ofZ f) (e ∙ sym (turn-low (length s) p (signedBytes s) k l), omega (arith, ap natAbs e, signed-size (getD s (k - p) 0) b))
 
-pub byte-turn-high : (s : List ℕ) (p k : ℕ) (r : ℤ) → SFits w32 r → getD s (length s + k - p) 0 < 2 ^ 8 → k < p → r ≡ signed 8 (getD s (length s + k - p) 0) → (toZ w32 (ofZ w32 (pos 0 -ℤ toZ w32 (ofZ w32 r))) ≡ turn (length s) p (signedBytes s) k) × (natAbs (toZ w32 (ofZ w32 (pos 0 -ℤ toZ w32 (ofZ w32 r)))) ≤ 128)
+pub byte-turn-high : (s : List ℕ) (p k : ℕ) (r : ℤ) → SFits w32 r → getD s (length s + k - p) 0 < 2 ^ 8 → k < p → r ≡ signed 8 (getD s (length s + k - p) 0)
+    → (toZ w32 (ofZ w32 (pos 0 -ℤ toZ w32 (ofZ w32 r))) ≡ turn (length s) p (signedBytes s) k) × (natAbs (toZ w32 (ofZ w32 (pos 0 -ℤ toZ w32 (ofZ w32 r)))) ≤ 128)
 byte-turn-high s p k r f b l e =
-    rw (minus-read r f size) (ap negℤ e ∙ sym (turn-high (length s) p (signedBytes s) k l), omega (arith, abs-neg r, size))
+    rw (minus-read r f (omega (arith, size))) (ap negℤ e ∙ sym (turn-high (length s) p (signedBytes s) k l), omega (arith, abs-neg r, size))
   where
     size : natAbs r ≤ 128
     size = omega (arith, ap natAbs e, signed-size (getD s (length s + k - p) 0) b)
@@ -157,7 +153,7 @@ pub by-plus : (v s : ℤ) → SFits w32 v → s ≡ pos 1 → toZ w32 (ofZ w32 v
 by-plus v s f e = toZ-ofZ f ∙ rw e (omega (int, product-is (pos 1) v))
 
 pub by-minus : (v s : ℤ) → SFits w32 v → natAbs v ≤ 128 → s ≡ negsuc 0 → toZ w32 (ofZ w32 (pos 0 -ℤ toZ w32 (ofZ w32 v))) ≡ s *ℤ v
-by-minus v s f h e = minus-read v f h ∙ rw e (omega (int, product-is (negsuc 0) v, up-neg v, down-neg v))
+by-minus v s f h e = minus-read v f (omega arith) ∙ rw e (omega (int, product-is (negsuc 0) v, up-neg v, down-neg v))
 
 -- ---- exactly
 
@@ -171,21 +167,30 @@ module _ {n : ℕ} {f : Poly} {ps : List ℕ} {ss : List ℤ} {k : ℕ} where
   unfolding sum
   byte-summed-none = record { most = omega arith; is = refl }
 
-  pub byte-summed-more : {j : ℕ} {z v r : ℤ} → Sign (getD ss j (pos 0)) → SFits w32 v → SFits w32 r → (v ≡ turn n (getD ps j 0) f k) × (natAbs v ≤ 128) → r ≡ toZ w8 (ofZ w8 (getD ss j (pos 0))) *ℤ toZ w32 (ofZ w32 v) → ByteSummed n f ps ss k j z → ByteSummed n f ps ss k (j + 1) (z +ℤ toZ w32 (ofZ w32 r))
-  unfolding sum
-  byte-summed-more {j} {z} {v} {r} e hv hr a b h = rw (toZ-ofZ hr) (record { most = size; is = rw (add-one j) (ap₂ _+ℤ_ (h .is) (term ∙ ap (λ (x : ℤ). getD ss j (pos 0) *ℤ x) (a .0))) })
-    where
-      term : r ≡ getD ss j (pos 0) *ℤ v
-      term = b ∙ ap₂ _*ℤ_ (sign-read e) (toZ-ofZ hv)
+  -- the term that the code adds: the sum fits, and is that of one term more
+  module _ {j : ℕ} {z v r : ℤ} (signs : Signed n ps ss) (few : length ps < 2 ^ 16) (h : ByteSummed n f ps ss k j z) (l : j < length ps)
+      (hv : SFits w32 v) (hr : SFits w32 r) (a : (v ≡ turn n (getD ps j 0) f k) × (natAbs v ≤ 128))
+      (b : r ≡ toZ w8 (ofZ w8 (getD ss j (pos 0))) *ℤ toZ w32 (ofZ w32 v)) where
+    term : r ≡ getD ss j (pos 0) *ℤ v
+    term = b ∙ ap₂ _*ℤ_ (sign-read (sign-at signs j l)) (toZ-ofZ hv)
 
-      as-large : natAbs r ≡ natAbs v
-      as-large = ap natAbs term ∙ abs-product (getD ss j (pos 0)) v ∙ rw (sign-size e) (omega arith)
+    as-large : natAbs r ≡ natAbs v
+    as-large = ap natAbs term ∙ abs-product (getD ss j (pos 0)) v ∙ rw (sign-size (sign-at signs j l)) (omega arith)
 
-      size : natAbs (z +ℤ r) ≤ 128 * (j + 1)
-      size = omega (arith, abs-sum z r, h .most, as-large, a .1)
+    next : ByteSummed n f ps ss k (j + 1) (z +ℤ toZ w32 (ofZ w32 r))
+    unfolding sum
+    next =
+        rw (toZ-ofZ hr)
+        (record {
+          most = omega (arith, abs-sum z r, h .most, as-large, a .1);
+          is = rw (add-one j) (ap₂ _+ℤ_ (h .is) (term ∙ ap (λ (x : ℤ). getD ss j (pos 0) *ℤ x) (a .0)));
+        })
 
-  pub byte-summed-fits : {j : ℕ} {z : ℤ} → j ≤ 2 ^ 16 → ByteSummed n f ps ss k j z → SFits w32 z
-  byte-summed-fits {j} {z} few h = small-fits z (omega (arith, h .most))
+    pub byte-summed-fits : SFits w32 (z +ℤ toZ w32 (ofZ w32 r))
+    byte-summed-fits = small-fits (z +ℤ toZ w32 (ofZ w32 r)) (omega (arith, next .most))
+
+    pub byte-summed-next : ByteSummed n f ps ss k (j + 1) (toZ w32 (ofZ w32 (z +ℤ toZ w32 (ofZ w32 r))))
+    byte-summed-next = rw (toZ-ofZ byte-summed-fits) next
 
   pub byte-summed-all : {j : ℕ} {z : ℤ} → length ss ≡ length ps → j ≤ length ps → length ps ≤ j → ByteSummed n f ps ss k j z → z ≡ turns n f ps ss k
   byte-summed-all {j} {z} paired le ge h = h .is ∙ ap (λ (i : ℕ). sum i (signedTurn n f ps ss k)) whole ∙ sym (turns-sum n f ps ss k paired)
@@ -209,7 +214,8 @@ module _ {s ps : List ℕ} {ss out : List ℤ} (h : ByteProduct s ps ss out) whe
   pub byte-row-fits : {k : ℕ} → k < length s → ByteRow s ps ss k
   byte-row-fits l = record { terms = h .terms; few = h .few; inside = l }
 
-  pub byte-row-of : {r : ℤ} (k : ℕ) → k < length s → SFits w32 r → r ≡ turns (length s) (signedBytes s) ps ss k → toZ w32 (ofZ w32 r) ≡ mul (length out) (signedBytes s) (sparse ps ss) k
+  pub byte-row-of : {r : ℤ} (k : ℕ) → k < length s → SFits w32 r → r ≡ turns (length s) (signedBytes s) ps ss k
+      → toZ w32 (ofZ w32 r) ≡ mul (length out) (signedBytes s) (sparse ps ss) k
   byte-row-of k l f e =
       toZ-ofZ f
       ∙ e

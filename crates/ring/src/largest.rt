@@ -6,7 +6,7 @@ ghost use Rattle.whole.specs.Twos.{signed};
 ghost use Rattle.ring.specs.Largest.{push, places, added, largest, sizes, sumPasses, Cleared, Addable, Few};
 
 // |b| for a signed byte b.
-pub fn size_of(b: u8) -> u32
+fn size_of(b: u8) -> u32
     ensures { λ r. ⌜ r ≡ natAbs (signed 8 b) ⌝ }
 {
     if b < 128 { b as u32 } else { 256 - b as u32 }
@@ -74,7 +74,7 @@ fn pick(e: &[u8], slots: &mut [u32])
 }
 
 // The sum of the h largest absolute values of the signed bytes e, found in h slots, whatever they held.
-pub fn largest_sum(e: &[u8], slots: &mut [u32]) -> u32
+fn largest_sum(e: &[u8], slots: &mut [u32]) -> u32
     requires { ⌜ Few (now slots) ⌝ }
     ensures { λ r. ⌜ r ≡ largest (length (now (slots .entry))) (sizes (now (e .entry))) ⌝ }
     ensures { λ _. ⌜ now (slots .exit) ≡ places (length (now (slots .entry))) (sizes (now (e .entry))) ⌝ }

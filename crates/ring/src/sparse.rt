@@ -1,5 +1,5 @@
 // The product by a sparse polynomial c, given as positions with signs: modulo q, and exactly for signed bytes.
-use crate::sums::signed_byte;
+use crate::signed_byte;
 ghost use mathlib.Core.Path.{_≡_};
 ghost use Prim.Native.Nat.{_≤_, _<_};
 ghost use lib.ListN.{length};

@@ -1,4 +1,5 @@
 // Sums and differences of polynomials coefficient by coefficient, in place on lent slices, with no division.
+use crate::signed_byte;
 ghost use mathlib.Core.Path.{_≡_};
 ghost use lib.ListN.{length};
 ghost use lib.IntN.{pos, _+ℤ_, _-ℤ_};
@@ -7,13 +8,6 @@ ghost use Rattle.whole.specs.Table.{table};
 ghost use Rattle.whole.specs.Twos.{signed};
 ghost use Rattle.ring.specs.Lists.{naturals, integers, signedBytes, residues};
 ghost use Rattle.ring.specs.Asks.{Taken, Added, AddedByte, WithBytes, WithSmall, TwoResidues, Summands, Small, Bytes};
-
-// The number that the signed byte b stands for.
-pub fn signed_byte(b: u8) -> i32
-    ensures { λ r. ⌜ r ≡ signed 8 b ⌝ }
-{
-    if b < 128 { b as i32 } else { b as i32 - 256 }
-}
 
 // a − b modulo q.
 fn minus(a: u32, b: u32, q: u32) -> u32

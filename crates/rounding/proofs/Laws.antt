@@ -9,11 +9,15 @@ use lib.Bits.{bitAnd, and-mask}
 use lib.IntN.{ℤ, pos, negsuc, negℤ, natAbs, _+ℤ_, _-ℤ_, _*ℤ_}
 use lib.Signed.{mag}
 use borrow.Author.Tests.{le-leb, lt-leb}
+use mir.Syntax.{w32}
+use mir.Val.{toZ, SFits}
+use mir.Facts.{toZ-pos}
 use Rattle.whole.specs.Int.{up, down, int, sum-is, minus-is, up-neg, down-neg, abs-is, abs-neg, one-part, lt-or-le, *ℤ-neg}
 use Rattle.whole.specs.Residue.{residue, Same, same-refl, same-neg, same-trans}
 use Rattle.whole.specs.Twos.{halves}
 use Rattle.rounding.specs.Centred.{centred, Central, centred-central, centred-same, centred-is, centred-self, central-abs}
 use Rattle.rounding.specs.Parts.{low, high, high-is, low-central}
+use Rattle.rounding.specs.Tests.{Rounds, Half}
 
 -- ---- a residue's centred remainder
 
@@ -41,48 +45,30 @@ centred-high q v l h = centred-is q (pos v) (negℤ (pos (q - v))) central below
 pub half-small : (d : ℕ) → 0 < d → d < 31 → (0 < 2 ^ (d - 1)) × (2 ^ (d - 1) < 2 ^ 30)
 half-small d h k = (pow-pos (d - 1), pow-lt {i = d - 1} {j = 30} (omega arith))
 
--- s counted in whole steps, and the rest that is left
-up-rest : (m half u : ℕ) → m ≡ 2 * half → 0 < half → Central m (pos u -ℤ pos (m * ((u + (half - 1)) / m)))
-up-rest m half u e h = go (one-part l)
+-- a − b is central where neither is further from the other than half
+central-minus : (m half a b : ℕ) → m ≡ 2 * half → a ≤ b + half → b < a + half → Central m (pos a -ℤ pos b)
+central-minus m half a b e h k = go (one-part (pos a -ℤ pos b))
   where
-    t : ℕ
-    t = (u + (half - 1)) / m
+    go : (up (pos a -ℤ pos b) ≡ 0) ⊎ (down (pos a -ℤ pos b) ≡ 0) → Central m (pos a -ℤ pos b)
+    go (inl z) = record { most = omega arith; least = omega (arith, minus-is (pos a) (pos b)) }
+    go (inr z) = record { most = omega (arith, minus-is (pos a) (pos b)); least = omega arith }
 
-    l : ℤ
-    l = pos u -ℤ pos (m * t)
-
-    under : m * t + (u + (half - 1)) % m ≡ u + (half - 1)
-    under = div-add-mod (u + (half - 1)) m
-
-    rest : (u + (half - 1)) % m < m
-    rest = mod-lt (u + (half - 1)) (omega arith)
-
-    go : (up l ≡ 0) ⊎ (down l ≡ 0) → Central m l
-    go (inl z) = record { most = omega arith; least = omega (arith, minus-is (pos u) (pos (m * t)), under, rest) }
-    go (inr z) = record { most = omega (arith, minus-is (pos u) (pos (m * t)), under, rest); least = omega arith }
+-- u counted in whole steps, and the rest that is left: up, and down
+up-rest : (m half u : ℕ) → m ≡ 2 * half → 0 < half → Central m (pos u -ℤ pos (m * ((u + (half - 1)) / m)))
+up-rest m half u e h =
+    let r : (u + (half - 1)) % m < m = mod-lt (u + (half - 1)) (omega arith) in
+    let s = div-add-mod (u + (half - 1)) m in
+    central-minus m half u (m * ((u + (half - 1)) / m)) e (omega arith) (omega arith)
 
 down-rest : (m half u : ℕ) → m ≡ 2 * half → 0 < half → Central m (pos (m * ((u + half) / m)) -ℤ pos u)
-down-rest m half u e h = go (one-part l)
-  where
-    t : ℕ
-    t = (u + half) / m
-
-    l : ℤ
-    l = pos (m * t) -ℤ pos u
-
-    under : m * t + (u + half) % m ≡ u + half
-    under = div-add-mod (u + half) m
-
-    rest : (u + half) % m < m
-    rest = mod-lt (u + half) (omega arith)
-
-    go : (up l ≡ 0) ⊎ (down l ≡ 0) → Central m l
-    go (inl z) = record { most = omega arith; least = omega (arith, minus-is (pos (m * t)) (pos u), under, rest) }
-    go (inr z) = record { most = omega (arith, minus-is (pos (m * t)) (pos u), under, rest); least = omega arith }
+down-rest m half u e h =
+    let r : (u + half) % m < m = mod-lt (u + half) (omega arith) in
+    let s = div-add-mod (u + half) m in
+    central-minus m half (m * ((u + half) / m)) u e (omega arith) (omega arith)
 
 -- ---- the high part
 
-pub high-low : (q d v : ℕ) → 0 < d → v < q → v ≤ q / 2 → high q d (pos v) ≡ pos ((v + (2 ^ (d - 1) - 1)) / 2 ^ d)
+high-low : (q d v : ℕ) → 0 < d → v < q → v ≤ q / 2 → high q d (pos v) ≡ pos ((v + (2 ^ (d - 1) - 1)) / 2 ^ d)
 high-low q d v hd l h =
     high-is q d (pos v) (pos v) (pos t) rest (record { most = omega arith; least = omega arith }) (same-refl q (pos v)) split
     (up-rest (2 ^ d) (2 ^ (d - 1)) v (halves d hd) (pow-pos (d - 1)))
@@ -96,7 +82,7 @@ high-low q d v hd l h =
     split : pos v ≡ rest +ℤ pos (2 ^ d * t)
     split = omega (int, minus-is (pos v) (pos (2 ^ d * t)), sum-is rest (pos (2 ^ d * t)))
 
-pub high-high : (q d v : ℕ) → 0 < d → v < q → q / 2 < v → high q d (pos v) ≡ negℤ (pos ((q - v + 2 ^ (d - 1)) / 2 ^ d))
+high-high : (q d v : ℕ) → 0 < d → v < q → q / 2 < v → high q d (pos v) ≡ negℤ (pos ((q - v + 2 ^ (d - 1)) / 2 ^ d))
 high-high q d v hd l h =
     high-is q d (pos v) (negℤ (pos u)) (negℤ (pos t)) rest
     (subst (Central q) (centred-high q v l h) (centred-central q (pos v) (omega arith)))
@@ -119,6 +105,14 @@ high-high q d v hd l h =
 
     split : negℤ (pos u) ≡ rest +ℤ pos (2 ^ d) *ℤ negℤ (pos t)
     split = stepped ∙ ap (λ (x : ℤ). rest +ℤ x) (sym (*ℤ-neg (pos (2 ^ d)) (pos t)))
+
+-- by the half step that the code has made
+module _ {q d v half : ℕ} (r : Rounds q d v) (e : Half d half) where
+  pub high-of-low : v ≤ q / 2 → SFits w32 (pos ((v + (half - 1)) / 2 ^ d)) → toZ w32 ((v + (half - 1)) / 2 ^ d) ≡ high q d (pos v)
+  high-of-low l f = toZ-pos w32 (f .sfits) ∙ rw (e .is) (sym (high-low q d v (r .step) (r .residue) l))
+
+  pub high-of-high : {h : ℤ} → q / 2 < v → h ≡ negℤ (pos ((q - v + half) / 2 ^ d)) → h ≡ high q d (pos v)
+  high-of-high l f = f ∙ rw (e .is) (sym (high-high q d v (r .step) (r .residue) l))
 
 -- ---- the low part's size: that of the centred remainder's size
 
@@ -153,7 +147,7 @@ same-size m z h = ⊎-elim inside at-half (lt-or-le (2 * up c) m)
               is = omega (int, up-neg c, down-neg c, sum-is c (negℤ (pos (m * 1))), up-neg (pos (m * 1)), down-neg (pos (m * 1)), mul-one m, central .most, no-down (one-part c));
             }
 
-pub low-size : (q d : ℕ) (v : ℤ) → natAbs (low q d v) ≡ natAbs (centred (2 ^ d) (pos (natAbs (centred q v))))
+low-size : (q d : ℕ) (v : ℤ) → natAbs (low q d v) ≡ natAbs (centred (2 ^ d) (pos (natAbs (centred q v))))
 unfolding low
 low-size q d v = go (centred q v)
   where
@@ -161,11 +155,11 @@ low-size q d v = go (centred q v)
     go (pos n) = refl
     go (negsuc n) = same-size (2 ^ d) (pos (suc n)) (pow-pos d)
 
-pub size-near : (m u : ℕ) → u % m ≤ m / 2 → natAbs (centred m (pos u)) ≡ u % m
+size-near : (m u : ℕ) → u % m ≤ m / 2 → natAbs (centred m (pos u)) ≡ u % m
 unfolding centred residue
 size-near m u h = rw (le-leb (u % m) (m / 2) h)
 
-pub size-far : (m u : ℕ) → 0 < m → m / 2 < u % m → natAbs (centred m (pos u)) ≡ m - u % m
+size-far : (m u : ℕ) → 0 < m → m / 2 < u % m → natAbs (centred m (pos u)) ≡ m - u % m
 unfolding centred residue
 size-far m u h k = rw (lt-leb (u % m) (m / 2) k) (⊎-elim (λ e. omega (arith, is, size, mod-lt u h)) (λ e. omega (arith, is, size, mod-lt u h)) (one-part y))
   where
@@ -204,8 +198,9 @@ module _ (q d w half u : ℕ) (hd : 0 < d) (he : half ≡ 2 ^ (d - 1)) (ue : u �
 
 -- ---- both sizes leave room for a bound below 2^31
 
-pub low-fits : (q d : ℕ) (v : ℤ) → 0 < d → d < 31 → natAbs (low q d v) < 2 ^ 31
-low-fits q d v h k = omega (arith, central-abs (2 ^ d) (low q d v) (low-central q d v), halves d h, half-small d h k)
+pub low-fits : {q d w r : ℕ} → Rounds q d w → r ≡ natAbs (low q d (pos w)) → r < 2 ^ 31
+low-fits {q} {d} {w} p e =
+    omega (arith, central-abs (2 ^ d) (low q d (pos w)) (low-central q d (pos w)), halves d (p .step), half-small d (p .step) (p .fits))
 
-pub size-fits : (q : ℕ) (v : ℤ) → 0 < q → q < 2 ^ 31 → natAbs (centred q v) < 2 ^ 31
-size-fits q v h k = omega (arith, central-abs q (centred q v) (centred-central q v h))
+pub size-fits : {q w r : ℕ} → (w < q) × (q < 2 ^ 31) → r ≡ natAbs (centred q (pos w)) → r < 2 ^ 31
+size-fits {q} {w} p e = omega (arith, central-abs q (centred q (pos w)) (centred-central q (pos w) (omega arith)))

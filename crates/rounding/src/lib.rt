@@ -1,4 +1,4 @@
-// The centred remainder and the high part of a residue, and the two tests on w, for any q and d.
+// The high part of a residue, and the two tests on w, for any q and d.
 pub mod polynomial;
 
 ghost use mathlib.Core.Path.{_≡_};
@@ -32,20 +32,8 @@ fn magnitude(v: u32, q: u32) -> u32
     if v <= q / 2 { v } else { q - v }
 }
 
-// The centred remainder by q of the residue v.
-pub fn centred_of(v: u32, q: u32) -> i32
-    requires { ⌜ (v < q) × (q < 2 ^ 31) ⌝ }
-    ensures { λ r. ⌜ r ≡ centred q (pos v) ⌝ }
-{
-    if v <= q / 2 {
-        v as i32
-    } else {
-        negative(q - v)
-    }
-}
-
 // The high part of the residue v.
-pub fn high_of(v: u32, q: u32, d: u32) -> i32
+fn high_of(v: u32, q: u32, d: u32) -> i32
     requires { ⌜ Rounds q d v ⌝ }
     ensures { λ r. ⌜ r ≡ high q d (pos v) ⌝ }
 {
@@ -73,7 +61,7 @@ fn low_magnitude(w: u32, q: u32, d: u32) -> u32
 }
 
 // The first test on w: its |low part| is below 2^(d−1) − bound.
-pub fn low_passes(w: u32, q: u32, d: u32, bound: u32) -> bool
+fn low_passes(w: u32, q: u32, d: u32, bound: u32) -> bool
     requires { ⌜ Rounds q d w ⌝ }
     requires { ⌜ bound < 2 ^ 31 ⌝ }
     ensures { λ r. ⌜ r ≡ lowPasses q d bound (pos w) ⌝ }
@@ -82,7 +70,7 @@ pub fn low_passes(w: u32, q: u32, d: u32, bound: u32) -> bool
 }
 
 // The second test on w: |w| is below floor(q/2) − bound.
-pub fn size_passes(w: u32, q: u32, bound: u32) -> bool
+fn size_passes(w: u32, q: u32, bound: u32) -> bool
     requires { ⌜ (w < q) × (q < 2 ^ 31) ⌝ }
     requires { ⌜ bound < 2 ^ 31 ⌝ }
     ensures { λ r. ⌜ r ≡ sizePasses q bound (pos w) ⌝ }

@@ -17,7 +17,7 @@ use lib.Bits.{bitXor}
 use lib.ListN.{length, getD, set, drop, drop-of-length-le}
 use lib.Pow.{shl-exact}
 use lib.Seq.{drop-cons, drop-drop, getD-drop}
-use Rattle.whole.specs.Fill.{filled, filled-none, filled-more, filled-whole, length-filled}
+use Rattle.whole.specs.Fill.{Wrote, wrote-none, wrote-more, wrote-whole}
 use Rattle.keccak.specs.Steps.{keccakF}
 use Rattle.shake.specs.declared.Sponge.{Sponge}
 use Rattle.shake.specs.Sponge.{xorAt, byteAt, blank, passed, absorbable, absorbByte, absorbAll, absorbed, ended, squeezable, squeezeNext, bytesOf, stateAfter, squeezed, afterSqueeze}
@@ -98,9 +98,12 @@ module _ {s : Sponge} {bytes lanes : List ℕ} {p i : ℕ} (a : Absorbing s byte
   absorbing-all l = sym (rw (drop-of-length-le bytes l)) ∙ a .left
 
 -- from what an absorb acts on
+pub absorbable-near : (s : Sponge) {r : Sponge} → r ≡ absorbable s → r .place < 136
+absorbable-near s e = rw e (sound-absorbable s .within)
+
 module _ (s : Sponge) {r : Sponge} (e : r ≡ absorbable s) (bytes : List ℕ) where
   pub absorbing-none : Absorbing (state (r .lanes) (r .place) false) bytes (r .lanes) (r .place) 0
-  absorbing-none = record { near = rw e (sound-absorbable s .within); left = refl }
+  absorbing-none = record { near = absorbable-near s e; left = refl }
 
   pub absorbed-is : {t : Sponge} → t ≡ absorbAll (state (r .lanes) (r .place) false) bytes → t ≡ absorbed s bytes
   unfolding absorbed
@@ -113,12 +116,12 @@ pub record Squeezing (s : Sponge) (old out lanes : List ℕ) (p k : ℕ) : Type 
   pub near : p < 136
   pub more : drop k (bytesOf (length old) s) ≡ bytesOf (length old - k) (state lanes p true)
   pub after : stateAfter (length old - k) (state lanes p true) ≡ stateAfter (length old) s
-  pub done : out ≡ filled k (bytesOf (length old) s) old
+  pub done : Wrote (λ i. getD (bytesOf (length old) s) i 0) old k out
 
 pub squeezing-none : (old lanes : List ℕ) (p : ℕ) → p < 136 → Squeezing (state lanes p true) old old lanes p 0
 squeezing-none old lanes p h =
     let e : length old - 0 ≡ length old = omega arith in
-    record { near = h; more = rw e; after = rw e; done = filled-none _ old }
+    record { near = h; more = rw e; after = rw e; done = wrote-none }
 
 -- what stands first from k on stands at k
 first-at : (l : List ℕ) (k : ℕ) {v : ℕ} {rest : List ℕ} → drop k l ≡ v ∷ rest → getD l k 0 ≡ v
@@ -130,7 +133,7 @@ rest-at l k e = sym (drop-drop 1 k l) ∙ ap (drop 1) e
 module _ {s : Sponge} {old out lanes : List ℕ} {p k : ℕ} (a : Squeezing s old out lanes p k) where
   -- the byte at the place is stored at k, and the place is done with
   pub squeezing-byte : {next : List ℕ} {v at done p′ : ℕ} → v ≡ byteAt lanes at → ((q : Bool) → passed lanes done q ≡ state next p′ q)
-      → k < length old → at ≡ p → done ≡ p → Squeezing s old (set out k v) next p′ (k + 1)
+      → k < length out → at ≡ p → done ≡ p → Squeezing s old (set out k v) next p′ (k + 1)
   unfolding bytesOf stateAfter squeezeNext
   squeezing-byte {next} {v} {p′ = p′} e g l h₁ h₂ =
       let f : passed lanes p true ≡ state next p′ true = rw h₂ at (g true) in
@@ -143,20 +146,14 @@ module _ {s : Sponge} {old out lanes : List ℕ} {p k : ℕ} (a : Squeezing s ol
         near = passed-near lanes next p p′ true (a .near) f;
         more = rest-at (bytesOf (length old) s) k (a .more ∙ b);
         after = sym t ∙ a .after;
-        done =
-            rw (a .done)
-            (filled-more k (bytesOf (length old) s) old 0 v (omega (arith, length-bytesOf (length old) s)) l
-            (first-at (bytesOf (length old) s) k (a .more ∙ b)));
+        done = wrote-more (a .done) l (sym (first-at (bytesOf (length old) s) k (a .more ∙ b)));
       }
 
-  pub squeezing-length : k ≤ length old → length out ≡ length old
-  squeezing-length h = rw (a .done) (length-filled k (bytesOf (length old) s) old (omega (arith, length-bytesOf (length old) s)) h)
-
-  pub squeezing-all : k ≡ length old → (out ≡ bytesOf (length old) s) × (state lanes p true ≡ stateAfter (length old) s)
+  pub squeezing-all : length out ≤ k → (out ≡ bytesOf (length old) s) × (state lanes p true ≡ stateAfter (length old) s)
   unfolding stateAfter
   squeezing-all e =
       let z : length old - k ≡ 0 = omega arith in
-      (a .done ∙ rw e (filled-whole (bytesOf (length old) s) old (length-bytesOf (length old) s)), sym (rw z) ∙ a .after)
+      (wrote-whole (bytesOf (length old) s) 0 (a .done) (length-bytesOf (length old) s) e, sym (rw z) ∙ a .after)
 
 -- one byte
 pub squeezing-one : (lanes : List ℕ) (p : ℕ) {next : List ℕ} {v done p′ : ℕ} → v ≡ byteAt lanes p → ((q : Bool) → passed lanes done q ≡ state next p′ q)

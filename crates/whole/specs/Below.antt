@@ -14,6 +14,9 @@ use Rattle.whole.specs.Table.{table, getD-table, length-table, joined}
 pub record Below (m : ℕ) (xs : List ℕ) : Type 0 where
   pub at : (i : ℕ) → i < length xs → getD xs i 0 < m
 
+pub below-at : {m : ℕ} {xs : List ℕ} (i : ℕ) → Below m xs → i < length xs → getD xs i 0 < m
+below-at i b l = b .at i l
+
 pub below-none : {m : ℕ} → Below m []
 below-none = record { at = λ i l. absurd (omega arith) }
 

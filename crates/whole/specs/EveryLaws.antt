@@ -7,7 +7,7 @@
 --     and-same, and-differs, same-first, same-rest      && of an equation and other tests
 -- Assumes nothing.
 use mathlib.Core.Path.{_≡_, refl, sym, ap, _∙_}
-use mathlib.Core.Bool.{Bool, true, false, _&&_, true≢false, and-assoc, and-false}
+use mathlib.Core.Bool.{Bool, true, false, not, _&&_, true≢false, and-assoc, and-false}
 use mathlib.Core.List.{List, [], _∷_, _++_, map}
 use mathlib.Core.Logic.{⊎-elim}
 use Prim.Native.Nat.{ℕ, zero, suc, _+_, _≤_, _<_}
@@ -17,7 +17,7 @@ use native.Mathlib.Omega.{arith}
 use lib.Dec.{eqb}
 use lib.ListN.{length, getD, drop, drop-of-length-le}
 use lib.Seq.{drop-cons}
-use borrow.Author.Tests.{eqb-true, eq-eqb, ne-eqb}
+use borrow.Author.Tests.{eqb-true, eq-eqb, ne-eqb, not-true, not-false}
 use Rattle.whole.specs.Int.{lt-or-le}
 use Rattle.whole.specs.Table.{joined}
 use Rattle.whole.specs.Every.{every, eachBelow, sameBytes}
@@ -147,6 +147,13 @@ module _ {A : Type 0} where
     pub passing-all : length xs ≤ i → true ≡ every p xs
     unfolding every
     passing-all l = sym (s .left ∙ rw (drop-of-length-le xs l))
+
+    -- the code's test of element i failed, or held
+    pub passing-stops : {r : Bool} (d : A) → i < length xs → r ≡ p (getD xs i d) → not r ≡ true → false ≡ every p xs
+    passing-stops {r} d l e n = passing-fails d l (sym e ∙ not-true r n)
+
+    pub passing-goes : {r : Bool} (d : A) → i < length xs → r ≡ p (getD xs i d) → not r ≡ false → Passing p xs (i + 1)
+    passing-goes {r} d l e n = passing-more d l (sym e ∙ not-false r n) refl
 
 -- ---- equal lists
 

@@ -1,20 +1,95 @@
--- A slice that a loop fills from the front: of `new` the first k stand in it, and from k on it is still the `old` one.
---     filled-none     before the first turn it is the old slice
---     filled-more     a store of new's element k at k makes one more of it
---     filled-all      once all of `new` stands in it, the rest is the old slice's
---     filled-whole    the same, where `new` is as long as the slice
---     length-filled   its length is the old slice's throughout
--- `Wrote` is the case where `new` is f 0, f 1, .., and `Mapping` the case where `new` has f of every element of a list, with the same laws.
+-- A slice that a loop fills from the front.
+--     Wrote          f stands at its first i places, and the old slice at the others
+--     wrote-none     before the first turn
+--     wrote-more     a store of f i at place i
+--     wrote-next     the same, where f i is made of what stood at place i
+--     wrote-ahead    what is still to be written is as it was
+--     wrote-front, wrote-all                after the last turn: the first n places are written, or every place
+--     wrote-list, wrote-whole, wrote-map    the same, where f gives the elements of a list, or g of each
+-- `filled` says it of a list in place of f, and `Mapping` of g of every element of a list.
 -- Assumes nothing.
 use mathlib.Core.Path.{_≡_, refl, sym, ap, _∙_}
 use mathlib.Core.List.{List, [], _∷_, _++_, map, append-nil}
 use Prim.Native.Nat.{ℕ, zero, suc, _+_, _≤_, _<_, zero-le}
 use native.Mathlib.Omega.{arith}
-use Rattle.whole.specs.Table.{table, length-table, getD-table}
-use native.Mathlib.Nat.{not-suc-le-zero, le-of-suc-le-suc, le-of-eq, le-antisymm, le-refl}
+use Rattle.whole.specs.Table.{row, table, length-table, table-suc, table-getD, map-table}
+use native.Mathlib.Nat.{add-zero, not-suc-le-zero, le-of-suc-le-suc, le-of-eq, le-antisymm}
 use native.Mathlib.Numerals.{add-one}
-use lib.ListN.{length, getD, take, drop, set, length-map, List·getD-map}
-use lib.Seq.{take-all, drop-length}
+use lib.ListN.{length, getD, take, drop, set, length-set, length-map, List·getD-map}
+use lib.Seq.{take-all, drop-length, drop-cons, set-at, append-snoc, getD-append-add, getD-drop}
+
+-- ---- what a loop has written: f i at place i, one place after another
+
+-- f stands at the first i places of `now`, and `old` at the others
+pub record Wrote {A : Type 0} (f : ℕ → A) (old : List A) (i : ℕ) (now : List A) : Type 0 where
+  pub within : i ≤ length old
+  pub long : length now ≡ length old
+  pub is : now ≡ table i f ++ drop i old
+
+module _ {A : Type 0} {f : ℕ → A} {old : List A} where
+  pub wrote-none : Wrote f old 0 old
+  unfolding row
+  wrote-none = record { within = zero-le; long = refl; is = refl }
+
+  module _ {i : ℕ} {now : List A} where
+    pub wrote-long : Wrote f old i now → length now ≡ length old
+    wrote-long w = w .long
+
+    -- what is still to be written is as it was
+    pub wrote-ahead : (d : A) → Wrote f old i now → getD now i d ≡ getD old i d
+    wrote-ahead d w =
+        rw (w .is)
+        (ap (λ (k : ℕ). getD (table i f ++ drop i old) k d) (sym (rw (length-table i f) (add-zero i)))
+        ∙ getD-append-add (table i f) (drop i old) 0 d
+        ∙ getD-drop i old 0 d
+        ∙ ap (λ (k : ℕ). getD old k d) (add-zero i))
+
+    pub wrote-more : {v : A} → Wrote f old i now → i < length now → v ≡ f i → Wrote f old (i + 1) (set now i v)
+    wrote-more {v} w l e = record { within = omega arith; long = length-set now i v ∙ w .long; is = more }
+      where
+        rest : drop i old ≡ getD old i v ∷ drop (suc i) old
+        rest = drop-cons old i v (omega (arith, w .long))
+
+        more : set now i v ≡ table (i + 1) f ++ drop (i + 1) old
+        more =
+            rw (add-one i, w .is, rest, table-suc i f, e)
+            (set-at (table i f) (getD old i (f i)) (drop (suc i) old) (f i) i (length-table i f)
+            ∙ sym (append-snoc (table i f) (f i) (drop (suc i) old)))
+
+    -- the first n places are written
+    pub wrote-front : (n : ℕ) → Wrote f old i now → i ≡ n → now ≡ table n f ++ drop n old
+    wrote-front n w e = w .is ∙ ap (λ (k : ℕ). table k f ++ drop k old) e
+
+    -- every place is written
+    pub wrote-all : Wrote f old i now → length now ≤ i → now ≡ table (length old) f
+    wrote-all w l = wrote-front (length old) w (omega (arith, w .long, w .within)) ∙ rw (drop-length old) (append-nil (table (length old) f))
+
+-- the same where f i is made of what stood at place i
+pub wrote-next : {A : Type 0} {old : List A} (g : ℕ → A → A) (d : A) {i : ℕ} {now : List A} {v : A} → Wrote (λ k. g k (getD old k d)) old i now
+    → i < length now → v ≡ g i (getD now i d) → Wrote (λ k. g k (getD old k d)) old (i + 1) (set now i v)
+wrote-next g d {i} w l e = wrote-more w l (e ∙ ap (g i) (wrote-ahead d w))
+
+-- the first places have the elements of a list
+pub wrote-list : {A : Type 0} (xs : List A) (d : A) {old : List A} {i : ℕ} {now : List A} → Wrote (λ k. getD xs k d) old i now → i ≡ length xs
+    → now ≡ xs ++ drop (length xs) old
+wrote-list {A} xs d {old} w e =
+    wrote-front (length xs) w e ∙ ap (λ (l : List A). l ++ drop (length xs) old) (sym (table-getD xs d))
+
+-- every place has an element of it
+pub wrote-whole : {A : Type 0} (xs : List A) (d : A) {old : List A} {i : ℕ} {now : List A} → Wrote (λ k. getD xs k d) old i now
+    → length xs ≡ length old → length now ≤ i → now ≡ xs
+wrote-whole xs d w e l = wrote-all w l ∙ ap (λ (n : ℕ). table n (λ k. getD xs k d)) (sym e) ∙ sym (table-getD xs d)
+
+-- every place has g of a list's element
+pub wrote-map : {A B : Type 0} (g : A → B) (xs : List A) (d : A) {old : List B} {i : ℕ} {now : List B} → Wrote (λ k. g (getD xs k d)) old i now
+    → length old ≡ length xs → length xs ≤ i → now ≡ map g xs
+wrote-map g xs d w e l =
+    wrote-all w (omega (arith, w .long))
+    ∙ ap (λ (n : ℕ). table n (λ k. g (getD xs k d))) e
+    ∙ sym (map-table g (length xs) (λ k. getD xs k d))
+    ∙ ap (map g) (sym (table-getD xs d))
+
+-- ---- the same of a list
 
 module _ {ℓ} {A : Type ℓ} where
   unfoldable pub filled : ℕ → List A → List A → List A
@@ -50,61 +125,6 @@ module _ {ℓ} {A : Type ℓ} where
   length-filled (suc k) [] old h l = absurd (not-suc-le-zero h)
   length-filled (suc k) (x ∷ new) [] h l = absurd (not-suc-le-zero l)
   length-filled (suc k) (x ∷ new) (y ∷ old) h l = ap suc (length-filled k new old (le-of-suc-le-suc h) (le-of-suc-le-suc l))
-
--- what is not filled yet
-pub getD-filled : {A : Type 0} (k : ℕ) (new old : List A) (j : ℕ) (d : A) → k ≤ length new → k ≤ length old → k ≤ j → getD (filled k new old) j d ≡ getD old j d
-unfolding filled
-getD-filled zero new old j d h m l = refl
-getD-filled (suc k) [] old j d h m l = absurd (not-suc-le-zero h)
-getD-filled (suc k) (x ∷ new) [] j d h m l = absurd (not-suc-le-zero m)
-getD-filled (suc k) (x ∷ new) (y ∷ old) zero d h m l = absurd (not-suc-le-zero l)
-getD-filled (suc k) (x ∷ new) (y ∷ old) (suc j) d h m l =
-    getD-filled k new old j d (le-of-suc-le-suc h) (le-of-suc-le-suc m) (le-of-suc-le-suc l)
-
--- ---- a loop that writes f i at place i, one place after another
-
--- f stands at the first i places of `now`, and `old` at the others
-pub record Wrote {A : Type 0} (f : ℕ → A) (old : List A) (i : ℕ) (now : List A) : Type 0 where
-  pub within : i ≤ length old
-  pub is : now ≡ filled i (table (length old) f) old
-
-module _ {A : Type 0} {f : ℕ → A} {old : List A} where
-  pub wrote-none : Wrote f old 0 old
-  wrote-none = record { within = zero-le; is = filled-none (table (length old) f) old }
-
-  pub wrote-long : {i : ℕ} {now : List A} → Wrote f old i now → length now ≡ length old
-  wrote-long {i} w =
-      ap length (w .is) ∙ length-filled i (table (length old) f) old (rw (length-table (length old) f) (w .within)) (w .within)
-
-  -- what is still to be written is as it was
-  pub wrote-ahead : {i : ℕ} {now : List A} (d : A) → Wrote f old i now → getD now i d ≡ getD old i d
-  wrote-ahead {i} d w =
-      ap (λ (l : List A). getD l i d) (w .is)
-      ∙ getD-filled i (table (length old) f) old i d (rw (length-table (length old) f) (w .within)) (w .within) (le-refl i)
-
-  pub wrote-more : {i : ℕ} {now : List A} {v : A} → Wrote f old i now → i < length now → v ≡ f i → Wrote f old (i + 1) (set now i v)
-  wrote-more {i} {now} {v} w l e = record { within = rw add-one inside; is = more }
-    where
-      inside : i < length old
-      inside = omega (arith, wrote-long w)
-
-      more : set now i v ≡ filled (i + 1) (table (length old) f) old
-      more =
-          rw (w .is)
-          (filled-more i (table (length old) f) old v v (rw (length-table (length old) f) inside) inside
-          (getD-table (length old) i f v inside ∙ sym e))
-
-  pub wrote-all : {i : ℕ} {now : List A} → Wrote f old i now → length now ≤ i → now ≡ table (length old) f
-  wrote-all {i} {now} w l =
-      w .is ∙ rw whole (filled-whole (table (length old) f) old (length-table (length old) f))
-    where
-      whole : i ≡ length old
-      whole = omega (arith, wrote-long w, w .within)
-
--- the same where f i is made of what stood at place i
-pub wrote-next : {A : Type 0} {old : List A} (g : ℕ → A → A) (d : A) {i : ℕ} {now : List A} {v : A} → Wrote (λ k. g k (getD old k d)) old i now
-    → i < length now → v ≡ g i (getD now i d) → Wrote (λ k. g k (getD old k d)) old (i + 1) (set now i v)
-wrote-next g d {i} w l e = wrote-more w l (e ∙ ap (g i) (wrote-ahead d w))
 
 -- ---- a loop that writes f of every element of xs into a slice of the same length
 

@@ -21,21 +21,6 @@ loop-holds : tie.Need-loop-holds Inv-loop μ-loop
 unfolding rounds roundConstant rc
 loop-holds c = (omega arith, refl, refl)
 
-mul-round : tie.Need-mul-round Inv-loop μ-loop
-mul-round c = omega arith
-
-array-read-round : tie.Need-array-read-round Inv-loop μ-loop
-array-read-round c = omega arith
-
-round-requires : tie.Need-round-requires Inv-loop μ-loop
-round-requires c κs = tt
-
-add-i : tie.Need-add-i Inv-loop μ-loop
-add-i c = omega arith
-
-loop-less : tie.Need-loop-less Inv-loop μ-loop
-loop-less c = omega arith
-
 loop-again : tie.Need-loop-again Inv-loop μ-loop
 loop-again c =
     let head = c .before .before .loop in (
@@ -58,10 +43,10 @@ permute-spec =
     Inv-loop
     μ-loop
     loop-holds
-    mul-round
-    array-read-round
-    round-requires
-    add-i
-    loop-less
+    (λ c. omega arith)
+    (λ c. omega arith)
+    (λ c κs. tt)
+    (λ c. omega arith)
+    (λ c. omega arith)
     loop-again
     returns)

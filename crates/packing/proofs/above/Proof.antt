@@ -12,9 +12,6 @@ use Rattle.packing.proofs.above.Tie as tie
 shifted : (c : tie.Start) → (c .args .v * 2 ^ (c .args .have)) % 2 ^ 64 ≡ c .args .v * 2 ^ (c .args .have)
 shifted c = shl-exact 32 (c .args .have) 64 (c .fits .v .fits) (omega arith)
 
-shl-result : tie.Need-shl-result
-shl-result c = omega arith
-
 add-result : tie.Need-add-result
 add-result c =
     let a = c .args in
@@ -25,4 +22,4 @@ returns : tie.Need-returns
 returns c = omega (arith, shifted c)
 
 pub above-spec : {M : Type 1} → statement M
-above-spec = tie.close (tie.spec shl-result add-result returns)
+above-spec = tie.close (tie.spec (λ c. omega arith) add-result returns)

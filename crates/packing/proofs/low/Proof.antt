@@ -12,12 +12,6 @@ use Rattle.packing.proofs.low.Tie as tie
 high-stays : (c : tie.Start) → (c .args .acc / 2 ^ (c .args .b) * 2 ^ (c .args .b)) % 2 ^ 64 ≡ c .args .acc / 2 ^ (c .args .b) * 2 ^ (c .args .b)
 high-stays c = mod-eq-of-lt (lt-of-le-of-lt (div-mul-le-self (c .args .acc) (2 ^ (c .args .b))) (c .fits .acc .fits))
 
-shr-result : tie.Need-shr-result
-shr-result c = omega arith
-
-shl-result : tie.Need-shl-result
-shl-result c = omega arith
-
 sub-result : tie.Need-sub-result
 sub-result c = omega (arith, high-stays c, split (c .args .acc) (c .args .b))
 
@@ -31,4 +25,4 @@ returns : tie.Need-returns
 returns c = omega (arith, high-stays c, split (c .args .acc) (c .args .b))
 
 pub low-spec : {M : Type 1} → statement M
-low-spec = tie.close (tie.spec shr-result shl-result sub-result cast-result returns)
+low-spec = tie.close (tie.spec (λ c. omega arith) (λ c. omega arith) sub-result cast-result returns)

@@ -1,12 +1,13 @@
 -- `pack` meets its contract. The loop's invariant: the first k bytes are written, and the bits that wait with the values that were not
 -- read are the rest of the number. The measure is the number of bytes left.
 -- Assumes nothing.
+use borrow.Author.Needs.{needs}
 use Prim.Native.Nat.{_≤_, _+_, _-_, zero-le}
 use mathlib.Core.Logic.{⊎-elim}
 use native.Mathlib.Omega.{arith}
 use lib.ListN.{length}
 use Rattle.packing.specs.Digits.{bytesFor}
-use Rattle.packing.proofs.Steps.{Packing, packing-none, packing-read, packing-write, packing-length, packing-all, packing-few}
+use Rattle.packing.proofs.Steps.{Packing, packing-none, packing-read, packing-write, packing-all, packing-few}
 use Rattle.packing.proofs.pack.Statement.{statement}
 use Rattle.packing.proofs.pack.Tie as tie
 
@@ -30,7 +31,7 @@ ready c =
     (c .if1 .came)
 
 mul-len : tie.Need-mul-len Inv-loop μ-loop
-mul-len c = omega (arith, packing-few (c .before .before .pre))
+mul-len c = search (packing-few, needs)
 
 add-len : tie.Need-add-len Inv-loop μ-loop
 add-len c = omega (arith, packing-few (c .before .before .pre))
@@ -38,44 +39,14 @@ add-len c = omega (arith, packing-few (c .before .before .pre))
 loop-holds : tie.Need-loop-holds Inv-loop μ-loop
 loop-holds c = (zero-le, (zero-le, packing-none _ _ _))
 
-padded-requires : tie.Need-padded-requires Inv-loop μ-loop
-padded-requires c κs = tt
-
-above-requires : tie.Need-above-requires Inv-loop μ-loop
-above-requires c κs = omega arith
-
-add-have : tie.Need-add-have Inv-loop μ-loop
-add-have c = omega arith
-
-add-at : tie.Need-add-at Inv-loop μ-loop
-add-at c = omega arith
-
-cast-out : tie.Need-cast-out Inv-loop μ-loop
-cast-out c = omega arith
-
-slice-write-out : tie.Need-slice-write-out Inv-loop μ-loop
-slice-write-out c =
-    let at-loop = c .before .before .before in
-    let p = at-loop .before .before .before .pre in
-    omega (arith, p .room, packing-length p (at-loop .loop .inv .1 .1) (at-loop .loop .inv .0))
-
 sub-have : tie.Need-sub-have Inv-loop μ-loop
 sub-have c = omega (arith, ready (c .before .before) .0)
-
-add-k : tie.Need-add-k Inv-loop μ-loop
-add-k c = omega arith
-
-loop-less : tie.Need-loop-less Inv-loop μ-loop
-loop-less c = omega arith
 
 loop-again : tie.Need-loop-again Inv-loop μ-loop
 loop-again c =
     let at-start = c .before .before .before .before .before .before .before in
     let r = ready (c .before .before) in
     (omega arith, (r .1 .0, packing-write (at-start .pre) (r .1 .1) (omega arith) (omega arith) (omega arith) (omega arith) (omega arith)))
-
-same-length : tie.Need-same-length Inv-loop μ-loop
-same-length c = packing-length (c .before .before .before .before .pre) (c .before .loop .inv .1 .1) (c .before .loop .inv .0)
 
 returns : tie.Need-returns Inv-loop μ-loop
 returns c = packing-all (c .before .before .before .before .pre) (c .before .loop .inv .1 .1) (omega arith)
@@ -89,15 +60,15 @@ pack-spec =
     mul-len
     add-len
     loop-holds
-    padded-requires
-    above-requires
-    add-have
-    add-at
-    cast-out
-    slice-write-out
+    (λ c κs. tt)
+    (λ c κs. omega arith)
+    (λ c. omega arith)
+    (λ c. omega arith)
+    (λ c. omega arith)
+    (λ c. omega arith)
     sub-have
-    add-k
-    loop-less
+    (λ c. omega arith)
+    (λ c. omega arith)
     loop-again
-    same-length
+    (λ c. search needs)
     returns)

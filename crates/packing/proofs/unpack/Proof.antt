@@ -1,15 +1,16 @@
 -- `unpack` meets its contract. The loop's invariant: fewer than b bits wait, and with the bytes that were not read they are what is left
 -- of the number; the values before `at` are stored. The measure is the number of bytes left.
 -- Assumes nothing.
-use Prim.Native.Nat.{_≤_, _<_, _+_, _-_, zero-le}
+use borrow.Author.Needs.{needs}
+use Prim.Native.Nat.{_<_, _+_, _-_}
 use native.Mathlib.Omega.{arith}
 use lib.ListN.{length}
-use Rattle.packing.proofs.Steps.{Unpacking, unpacking-none, unpacking-read, unpacking-store, unpacking-room, unpacking-length, unpacking-all}
+use Rattle.packing.proofs.Steps.{Unpacking, unpacking-none, unpacking-read, unpacking-store, unpacking-room, unpacking-all}
 use Rattle.packing.proofs.unpack.Statement.{statement}
 use Rattle.packing.proofs.unpack.Tie as tie
 
 abbrev Inv-loop : tie.InvT-loop
-Inv-loop src b out₀ acc₀ have₀ at₀ k₀ out acc have at k = (k ≤ length src) × ((have < b) × Unpacking b src out₀ out acc have at k)
+Inv-loop src b out₀ acc₀ have₀ at₀ k₀ out acc have at k = (have < b) × Unpacking b src out₀ out acc have at k
 
 abbrev μ-loop : tie.MeasureT-loop
 μ-loop src b out₀ acc₀ have₀ at₀ k₀ out acc have at k = length src - k
@@ -21,67 +22,35 @@ read : (c : tie.After-above Inv-loop μ-loop)
     Unpacking (a .b) (a .src .now) (a .out .now) (l .out) (c .above .result) (l .have + 8) (l .at) (l .k + 1)
 read c =
     let l = c .before .before .before .loop in
-    unpacking-read (l .inv .1 .1) (c .before .shared-slice-known2 .given (l .k) .fits) (c .above .ensures)
+    unpacking-read (l .inv .1) (search needs) (c .before .shared-slice-known2 .given (l .k) .fits) (c .above .ensures)
 
 -- there is a place for the value that is complete
-room : (c : tie.Then1 Inv-loop μ-loop) → c .before .before .before .before .loop .at < length (c .before .before .before .before .before .before .before .args .out .now)
-room c = unpacking-room (read (c .before)) (c .before .before .before .before .before .before .before .pre) (omega arith) (omega arith)
-
-loop-holds : tie.Need-loop-holds Inv-loop μ-loop
-loop-holds c = (zero-le, (omega arith, unpacking-none _ _ _))
-
-shared-slice-read-above : tie.Need-shared-slice-read-above Inv-loop μ-loop
-shared-slice-read-above c = omega arith
+room : (c : tie.Then1 Inv-loop μ-loop)
+    → let l = c .before .before .before .before .loop in
+    l .at < length (l .out)
+room c = search (unpacking-room, needs)
 
 cast-above : tie.Need-cast-above Inv-loop μ-loop
 cast-above c = omega (arith, c .shared-slice-known2 .given (c .before .before .loop .k))
-
-above-requires : tie.Need-above-requires Inv-loop μ-loop
-above-requires c κs = omega arith
-
-add-have : tie.Need-add-have Inv-loop μ-loop
-add-have c = omega arith
-
-add-k : tie.Need-add-k Inv-loop μ-loop
-add-k c = omega arith
-
-low-requires : tie.Need-low-requires Inv-loop μ-loop
-low-requires c κs = omega arith
 
 mul-out : tie.Need-mul-out Inv-loop μ-loop
 mul-out c = omega (arith, room (c .before))
 
 slice-write-out : tie.Need-slice-write-out Inv-loop μ-loop
-slice-write-out c =
-    let at-loop = c .before .before .before .before .before in
-    omega (arith, room (c .before), unpacking-length (at-loop .loop .inv .1 .1) (at-loop .before .before .before .pre) (at-loop .loop .inv .0))
+slice-write-out c = room (c .before)
 
 add-at : tie.Need-add-at Inv-loop μ-loop
 add-at c = omega (arith, room (c .before))
 
-shr-acc : tie.Need-shr-acc Inv-loop μ-loop
-shr-acc c = omega arith
-
-loop-less : tie.Need-loop-less Inv-loop μ-loop
-loop-less c = omega arith
-
 loop-again : tie.Need-loop-again Inv-loop μ-loop
 loop-again c =
-    (omega arith, (omega arith, unpacking-store (read (c .before .before)) (room (c .before)) (omega arith) (omega arith) (omega arith) (omega arith)))
-
-loop-less-2 : tie.Need-loop-less-2 Inv-loop μ-loop
-loop-less-2 c = omega arith
+    (omega arith, unpacking-store (read (c .before .before)) (room (c .before)) (omega arith) (omega arith) (omega arith) (omega arith))
 
 loop-again-2 : tie.Need-loop-again-2 Inv-loop μ-loop
-loop-again-2 c = (omega arith, (c .if1 .left, read (c .before)))
-
-same-length : tie.Need-same-length Inv-loop μ-loop
-same-length c = unpacking-length (c .before .loop .inv .1 .1) (c .before .before .before .before .pre) (c .before .loop .inv .0)
+loop-again-2 c = (c .if1 .left, read (c .before))
 
 returns : tie.Need-returns Inv-loop μ-loop
-returns c =
-    let l = c .before .loop in
-    unpacking-all (l .inv .1 .1) (c .before .before .before .before .pre) (l .inv .0) (c .loop-test .left) (l .inv .1 .0)
+returns c = search (unpacking-all, needs)
 
 pub unpack-spec : {M : Type 1} → statement M
 unpack-spec =
@@ -89,20 +58,20 @@ unpack-spec =
     (tie.spec
     Inv-loop
     μ-loop
-    loop-holds
-    shared-slice-read-above
+    (λ c. search (unpacking-none, needs))
+    (λ c. omega arith)
     cast-above
-    above-requires
-    add-have
-    add-k
-    low-requires
+    (λ c κs. omega arith)
+    (λ c. omega arith)
+    (λ c. omega arith)
+    (λ c κs. omega arith)
     mul-out
     slice-write-out
     add-at
-    shr-acc
-    loop-less
+    (λ c. omega arith)
+    (λ c. omega arith)
     loop-again
-    loop-less-2
+    (λ c. omega arith)
     loop-again-2
-    same-length
+    (λ c. search needs)
     returns)

@@ -8,12 +8,6 @@ use Rattle.rounding.proofs.Laws.{half-small}
 use Rattle.rounding.proofs.half_step.Statement.{statement}
 use Rattle.rounding.proofs.half_step.Tie as tie
 
-sub-result : tie.Need-sub-result
-sub-result c = search needs
-
-shl-result : tie.Need-shl-result
-shl-result c = search needs
-
 returns : tie.Need-returns
 returns c =
     let small = half-small (c .args .d) (c .pre .0) (c .pre .1) in
@@ -21,4 +15,4 @@ returns c =
     record { is = is; some = rw is (small .0); small = rw is (small .1) }
 
 pub half-step-spec : {M : Type 1} → statement M
-half-step-spec = tie.close (tie.spec sub-result shl-result returns)
+half-step-spec = tie.close (tie.spec (λ c. search needs) (λ c. search needs) returns)

@@ -8,9 +8,6 @@ use Rattle.rounding.proofs.Laws.{mag-neg}
 use Rattle.rounding.proofs.negative.Statement.{statement}
 use Rattle.rounding.proofs.negative.Tie as tie
 
-cast-result : tie.Need-cast-result
-cast-result c = search needs
-
 sub-result : tie.Need-sub-result
 sub-result c = rw (toZ-pos w32 (c .pre), +ℤ-idl (negℤ (pos (c .args .m)))) (record { sfits = mag-neg (c .args .m) (c .pre) })
 
@@ -18,4 +15,4 @@ returns : tie.Need-returns
 returns c = toZ-ofZ (sub-result c) ∙ rw (toZ-pos w32 (c .pre)) (+ℤ-idl (negℤ (pos (c .args .m))))
 
 pub negative-spec : {M : Type 1} → statement M
-negative-spec = tie.close (tie.spec cast-result sub-result returns)
+negative-spec = tie.close (tie.spec (λ c. search needs) sub-result returns)

@@ -1,21 +1,17 @@
 -- `rounding::size_passes` meets its contract. Assumes nothing.
 use borrow.Author.Needs.{needs}
-use lib.IntN.{pos}
 use Rattle.rounding.proofs.Laws.{size-fits}
 use native.Mathlib.Omega.{arith}
 use Rattle.rounding.specs.Tests.{sizePasses}
 use Rattle.rounding.proofs.size_passes.Statement.{statement}
 use Rattle.rounding.proofs.size_passes.Tie as tie
 
-magnitude-requires : tie.Need-magnitude-requires
-magnitude-requires c κs = search needs
-
 add-result : tie.Need-add-result
-add-result c = omega (arith, c .magnitude .ensures, size-fits (c .before .args .q) (pos (c .before .args .w)) (omega arith) (c .before .pre .0 .1))
+add-result c = omega (arith, size-fits (c .before .pre .0) (c .magnitude .ensures))
 
 returns : tie.Need-returns
 unfolding sizePasses
 returns c = rw (c .magnitude .ensures)
 
 pub size-passes-spec : {M : Type 1} → statement M
-size-passes-spec = tie.close (tie.spec magnitude-requires add-result returns)
+size-passes-spec = tie.close (tie.spec (λ c κs. search needs) add-result returns)

@@ -6,15 +6,6 @@ use Rattle.shake.proofs.Steps.{passed-last, passed-other}
 use Rattle.shake.proofs.pass.Statement.{statement}
 use Rattle.shake.proofs.pass.Tie as tie
 
-add-if1 : tie.Need-add-if1
-add-if1 c = search needs
-
-permute-requires : tie.Need-permute-requires
-permute-requires c κs = search needs
-
-add-result : tie.Need-add-result
-add-result c = search needs
-
 returns : tie.Need-returns
 returns c = λ q. passed-last _ _ _ q (omega arith) (c .permute .ensures)
 
@@ -22,4 +13,4 @@ returns-2 : tie.Need-returns-2
 returns-2 c = λ q. passed-other _ _ q (λ e. c .if1 .left (omega arith))
 
 pub pass-spec : {M : Type 1} → statement M
-pass-spec = tie.close (tie.spec add-if1 permute-requires add-result returns returns-2)
+pass-spec = tie.close (tie.spec (λ c. search needs) (λ c κs. search needs) (λ c. search needs) returns returns-2)

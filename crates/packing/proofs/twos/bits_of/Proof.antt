@@ -12,14 +12,8 @@ use Rattle.packing.proofs.Signs.{fits-i32, twos-fits, raised, kept}
 use Rattle.packing.proofs.twos.bits_of.Statement.{statement}
 use Rattle.packing.proofs.twos.bits_of.Tie as tie
 
-cast-result : tie.Need-cast-result
-cast-result c = search needs
-
-shl-result : tie.Need-shl-result
-shl-result c = search needs
-
 cast-result-2 : tie.Need-cast-result-2
-cast-result-2 c = wide-i32 (fits-i32 (c .before .pre .0 .1) (c .before .pre .1))
+cast-result-2 c = search (wide-i32, fits-i32, needs)
 
 add-result : tie.Need-add-result
 add-result c = subst⁻¹ (SFits w64) (raised (c .before .pre) (c .if1 .taken)) (record { sfits = omega (arith, twos-fits (c .before .pre)) })
@@ -41,8 +35,8 @@ pub bits-of-spec : {M : Type 1} → statement M
 bits-of-spec =
     tie.close
     (tie.spec
-    cast-result
-    shl-result
+    (λ c. search needs)
+    (λ c. search needs)
     cast-result-2
     add-result
     cast-result-3

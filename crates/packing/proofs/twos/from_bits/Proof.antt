@@ -1,61 +1,38 @@
 -- `from_bits` meets its contract. The loop's invariant: what the first k values stand for is written. The measure is the number of those left.
 -- Assumes nothing.
-use mathlib.Core.Path.{_∙_}
+use borrow.Author.Needs.{needs}
 use Prim.Native.Nat.{_-_}
 use native.Mathlib.Omega.{arith}
-use lib.ListN.{length}
-use borrow.Author.Needs.{sfits-of}
-use mir.Facts.{toZ-ofZ}
-use Rattle.whole.specs.Fill.{Mapping, mapping-none, mapping-more, mapping-length, mapping-all}
+use lib.ListN.{length, getD}
+use Rattle.whole.specs.Below.{below-at}
+use Rattle.whole.specs.Fill.{Wrote, wrote-none, wrote-more, wrote-map}
 use Rattle.whole.specs.Twos.{signed}
 use Rattle.packing.proofs.twos.from_bits.Statement.{statement}
 use Rattle.packing.proofs.twos.from_bits.Tie as tie
 
 abbrev Inv-loop : tie.InvT-loop
-Inv-loop x b out₀ k₀ out k = Mapping (signed b) x out₀ out k
+Inv-loop x b out₀ k₀ out k = Wrote (λ j. signed b (getD x j 0)) out₀ k out
 
 abbrev μ-loop : tie.MeasureT-loop
 μ-loop x b out₀ k₀ out k = length x - k
 
-loop-holds : tie.Need-loop-holds Inv-loop μ-loop
-loop-holds c = mapping-none _ _ _
-
-mul-value-of : tie.Need-mul-value-of Inv-loop μ-loop
-mul-value-of c = omega arith
-
-shared-slice-read-value-of : tie.Need-shared-slice-read-value-of Inv-loop μ-loop
-shared-slice-read-value-of c = omega arith
-
 value-of-requires : tie.Need-value-of-requires Inv-loop μ-loop
-value-of-requires c κs =
-    let l = c .before .before in
-    let p = l .before .before .pre in
-    ((p .wide, p .narrow), p .below .at (l .loop .k) (c .before .loop-test .taken))
-
-mul-t10 : tie.Need-mul-t10 Inv-loop μ-loop
-mul-t10 c = omega arith
+value-of-requires c κs = search (below-at, needs)
 
 slice-set-from-out : tie.Need-slice-set-from-out Inv-loop μ-loop
-slice-set-from-out c =
-    let l = c .before .before .before in
-    omega (arith, mapping-length (l .before .before .pre .exact) (l .loop .inv))
-
-add-k : tie.Need-add-k Inv-loop μ-loop
-add-k c = omega arith
-
-loop-less : tie.Need-loop-less Inv-loop μ-loop
-loop-less c = omega arith
+slice-set-from-out c = omega arith
 
 loop-again : tie.Need-loop-again Inv-loop μ-loop
 loop-again c =
-    let l = c .before .before .before in
-    mapping-more (l .before .before .pre .exact) (l .loop .inv) 0 (c .before .before .loop-test .taken) (toZ-ofZ (sfits-of (c .value-of .ok)) ∙ c .value-of .ensures)
+    search (wrote-more, needs)
 
 same-length : tie.Need-same-length Inv-loop μ-loop
-same-length c = mapping-length (c .before .before .before .pre .exact) (c .before .loop .inv)
+same-length c = search needs
 
 returns : tie.Need-returns Inv-loop μ-loop
-returns c = mapping-all (c .before .before .before .pre .exact) (c .before .loop .inv) (c .loop-test .left)
+returns c =
+    let a = c .before .before .before .args in
+    wrote-map (signed (a .b)) (a .x .now) 0 (c .before .loop .inv) (search needs) (search needs)
 
 pub from-bits-spec : {M : Type 1} → statement M
 from-bits-spec =
@@ -63,14 +40,14 @@ from-bits-spec =
     (tie.spec
     Inv-loop
     μ-loop
-    loop-holds
-    mul-value-of
-    shared-slice-read-value-of
+    (λ c. search (wrote-none, needs))
+    (λ c. omega arith)
+    (λ c. omega arith)
     value-of-requires
-    mul-t10
+    (λ c. omega arith)
     slice-set-from-out
-    add-k
-    loop-less
+    (λ c. omega arith)
+    (λ c. omega arith)
     loop-again
     same-length
     returns)

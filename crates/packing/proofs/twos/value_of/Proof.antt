@@ -9,51 +9,32 @@ use Rattle.packing.proofs.Signs.{signed-fits, lowered, positive-fits, p
 use Rattle.packing.proofs.twos.value_of.Statement.{statement}
 use Rattle.packing.proofs.twos.value_of.Tie as tie
 
-sub-if1 : tie.Need-sub-if1
-sub-if1 c = search needs
-
-shl-if1 : tie.Need-shl-if1
-shl-if1 c = search needs
-
 cast-result : tie.Need-cast-result
-cast-result c = positive-fits (c .before .args .b) (c .before .args .x) (c .before .pre) (c .if1 .taken)
-
-cast-result-2 : tie.Need-cast-result-2
-cast-result-2 c = search needs
-
-cast-result-3 : tie.Need-cast-result-3
-cast-result-3 c = search needs
-
-shl-result : tie.Need-shl-result
-shl-result c = search needs
+cast-result c = search (positive-fits, needs)
 
 sub-result : tie.Need-sub-result
 sub-result c =
-    let a = c .before .args in
-    subst⁻¹ (SFits w64) (lowered (a .b) (a .x) (c .before .pre) (c .if1 .left)) (sfits-widen {w = w32} tt (signed-fits (a .b) (a .x) (c .before .pre)))
+    subst⁻¹ (SFits w64) (lowered (c .before .pre) (c .if1 .left)) (sfits-widen {w = w32} tt (signed-fits (c .before .pre)))
 
 cast-result-4 : tie.Need-cast-result-4
-cast-result-4 c =
-    let a = c .before .args in
-    rw (toZ-ofZ (sub-result c), lowered (a .b) (a .x) (c .before .pre) (c .if1 .left)) (signed-fits (a .b) (a .x) (c .before .pre))
+cast-result-4 c = rw (toZ-ofZ (sub-result c), lowered (c .before .pre) (c .if1 .left)) (signed-fits (c .before .pre))
 
 returns : tie.Need-returns
-returns c = positive (c .before .args .b) (c .before .args .x) (c .before .pre) (c .if1 .taken)
+returns c = search (positive, needs)
 
 returns-2 : tie.Need-returns-2
-returns-2 c =
-    toZ-ofZ (cast-result-4 c) ∙ toZ-ofZ (sub-result c) ∙ lowered (c .before .args .b) (c .before .args .x) (c .before .pre) (c .if1 .left)
+returns-2 c = toZ-ofZ (cast-result-4 c) ∙ toZ-ofZ (sub-result c) ∙ lowered (c .before .pre) (c .if1 .left)
 
 pub value-of-spec : {M : Type 1} → statement M
 value-of-spec =
     tie.close
     (tie.spec
-    sub-if1
-    shl-if1
+    (λ c. search needs)
+    (λ c. search needs)
     cast-result
-    cast-result-2
-    cast-result-3
-    shl-result
+    (λ c. search needs)
+    (λ c. search needs)
+    (λ c. search needs)
     sub-result
     cast-result-4
     returns

@@ -1,4 +1,5 @@
 -- `ring::largest::add_up` meets its contract: the loop has summed the first i places. Assumes nothing.
+use borrow.Author.Needs.{needs}
 use Prim.Native.Nat.{_-_}
 use native.Mathlib.Omega.{arith}
 use lib.ListN.{length}
@@ -12,29 +13,14 @@ Inv-loop slots sum₀ i₀ sum i = Adding slots sum i
 abbrev μ-loop : tie.MeasureT-loop
 μ-loop slots sum₀ i₀ sum i = length slots - i
 
-loop-holds : tie.Need-loop-holds Inv-loop μ-loop
-loop-holds c = adding-none (c .args .slots .now)
-
-mul-sum : tie.Need-mul-sum Inv-loop μ-loop
-mul-sum c = omega arith
-
-shared-slice-read-sum : tie.Need-shared-slice-read-sum Inv-loop μ-loop
-shared-slice-read-sum c = omega arith
-
 add-sum : tie.Need-add-sum Inv-loop μ-loop
 add-sum c = omega (arith, c .before .before .before .pre .small .at (c .before .before .loop .i) (omega arith))
 
-add-i : tie.Need-add-i Inv-loop μ-loop
-add-i c = omega arith
-
-loop-less : tie.Need-loop-less Inv-loop μ-loop
-loop-less c = omega arith
-
 loop-again : tie.Need-loop-again Inv-loop μ-loop
-loop-again c = adding-more (c .before .before .before .pre .small) (c .before .before .loop .inv) (omega arith)
+loop-again c = search (adding-more, needs)
 
 returns : tie.Need-returns Inv-loop μ-loop
-returns c = adding-all (c .before .loop .inv) (omega arith)
+returns c = search (adding-all, needs)
 
 pub add-up-spec : {M : Type 1} → statement M
 add-up-spec =
@@ -42,11 +28,11 @@ add-up-spec =
     (tie.spec
     Inv-loop
     μ-loop
-    loop-holds
-    mul-sum
-    shared-slice-read-sum
+    (λ c. adding-none _)
+    (λ c. omega arith)
+    (λ c. omega arith)
     add-sum
-    add-i
-    loop-less
+    (λ c. omega arith)
+    (λ c. omega arith)
     loop-again
     returns)

@@ -1,9 +1,10 @@
 -- `ring::largest::clear` meets its contract: the loop has written 0 at the first i places. Assumes nothing.
-use mathlib.Core.Path.{refl, _∙_}
-use Prim.Native.Nat.{_-_, _<_}
+use borrow.Author.Needs.{needs}
+use mathlib.Core.Path.{_∙_}
+use Prim.Native.Nat.{_-_}
 use native.Mathlib.Omega.{arith}
 use lib.ListN.{length}
-use Rattle.whole.specs.Fill.{Wrote, wrote-none, wrote-long, wrote-more, wrote-all}
+use Rattle.whole.specs.Fill.{Wrote, wrote-none, wrote-more, wrote-all}
 use Rattle.ring.proofs.Places.{zeros}
 use Rattle.ring.proofs.largest.clear.Statement.{statement}
 use Rattle.ring.proofs.largest.clear.Tie as tie
@@ -14,32 +15,11 @@ Inv-loop slots₀ i₀ slots i = Wrote (λ k. 0) slots₀ i slots
 abbrev μ-loop : tie.MeasureT-loop
 μ-loop slots₀ i₀ slots i = length slots₀ - i
 
-inside : (c : tie.In-loop Inv-loop μ-loop) → c .before .loop .i < length (c .before .before .args .slots .now)
-inside c = omega (arith, wrote-long (c .before .loop .inv))
-
-loop-holds : tie.Need-loop-holds Inv-loop μ-loop
-loop-holds c = wrote-none
-
-mul-slots : tie.Need-mul-slots Inv-loop μ-loop
-mul-slots c = omega (arith, inside c)
-
-slice-write-slots : tie.Need-slice-write-slots Inv-loop μ-loop
-slice-write-slots c = omega arith
-
-add-i : tie.Need-add-i Inv-loop μ-loop
-add-i c = omega (arith, inside c)
-
-loop-less : tie.Need-loop-less Inv-loop μ-loop
-loop-less c = omega (arith, inside c)
-
 loop-again : tie.Need-loop-again Inv-loop μ-loop
-loop-again c = wrote-more (c .before .loop .inv) (omega arith) refl
-
-same-length : tie.Need-same-length Inv-loop μ-loop
-same-length c = wrote-long (c .before .loop .inv)
+loop-again c = search (wrote-more, needs)
 
 returns : tie.Need-returns Inv-loop μ-loop
-returns c = wrote-all (c .before .loop .inv) (omega arith) ∙ zeros (length (c .before .before .args .slots .now))
+returns c = wrote-all (c .before .loop .inv) (omega arith) ∙ zeros _
 
 pub clear-spec : {M : Type 1} → statement M
 clear-spec =
@@ -47,11 +27,11 @@ clear-spec =
     (tie.spec
     Inv-loop
     μ-loop
-    loop-holds
-    mul-slots
-    slice-write-slots
-    add-i
-    loop-less
+    (λ c. wrote-none)
+    (λ c. omega arith)
+    (λ c. omega arith)
+    (λ c. omega arith)
+    (λ c. omega arith)
     loop-again
-    same-length
+    (λ c. search needs)
     returns)

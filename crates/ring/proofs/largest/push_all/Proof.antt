@@ -1,7 +1,8 @@
 -- `ring::largest::push_all` meets its contract: the loop has pushed in the bytes from k on. Assumes nothing.
+use borrow.Author.Needs.{needs}
 use native.Mathlib.Omega.{arith}
 use lib.ListN.{length}
-use Rattle.ring.proofs.Places.{Picked, picked-none, picked-long, picked-more, picked-all}
+use Rattle.ring.proofs.Places.{Picked, picked-none, picked-more, picked-all}
 use Rattle.ring.proofs.largest.push_all.Statement.{statement}
 use Rattle.ring.proofs.largest.push_all.Tie as tie
 
@@ -11,34 +12,11 @@ Inv-loop e slots₀ k₀ slots k = Picked (length slots₀) e k slots
 abbrev μ-loop : tie.MeasureT-loop
 μ-loop e slots₀ k₀ slots k = k
 
-loop-holds : tie.Need-loop-holds Inv-loop μ-loop
-loop-holds c = picked-none (c .before .before .args .e .now) (c .before .before .pre)
-
-sub-k : tie.Need-sub-k Inv-loop μ-loop
-sub-k c = omega arith
-
-shared-slice-read-size-of : tie.Need-shared-slice-read-size-of Inv-loop μ-loop
-shared-slice-read-size-of c = omega arith
-
-size-of-requires : tie.Need-size-of-requires Inv-loop μ-loop
-size-of-requires c κs = tt
-
-put-requires : tie.Need-put-requires Inv-loop μ-loop
-put-requires c κs = tt
-
-loop-less : tie.Need-loop-less Inv-loop μ-loop
-loop-less c = omega arith
-
 loop-again : tie.Need-loop-again Inv-loop μ-loop
-loop-again c =
-    picked-more (c .before .before .before .before .before .before .before .loop .inv) (c .before .before .before .before .size-of .result) (c .before .before .put .last .1 .0) (omega arith)
-    (c .before .before .before .before .size-of .ensures) (c .before .before .put .ensures)
-
-same-length : tie.Need-same-length Inv-loop μ-loop
-same-length c = picked-long (c .before .loop .inv)
+loop-again c = search (picked-more, needs)
 
 returns : tie.Need-returns Inv-loop μ-loop
-returns c = picked-all (c .before .loop .inv) (omega arith)
+returns c = search (picked-all, needs)
 
 pub push-all-spec : {M : Type 1} → statement M
 push-all-spec =
@@ -46,12 +24,12 @@ push-all-spec =
     (tie.spec
     Inv-loop
     μ-loop
-    loop-holds
-    sub-k
-    shared-slice-read-size-of
-    size-of-requires
-    put-requires
-    loop-less
+    (λ c. search (picked-none, needs))
+    (λ c. omega arith)
+    (λ c. omega arith)
+    (λ c κs. tt)
+    (λ c κs. tt)
+    (λ c. omega arith)
     loop-again
-    same-length
+    (λ c. search needs)
     returns)

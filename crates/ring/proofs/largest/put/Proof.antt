@@ -1,9 +1,10 @@
 -- `ring::largest::put` meets its contract: the loop has pushed past the first i places. Assumes nothing.
+use borrow.Author.Needs.{needs}
 use mathlib.Core.Logic.{⊎-elim}
-use Prim.Native.Nat.{_-_, _<_}
+use Prim.Native.Nat.{_-_}
 use native.Mathlib.Omega.{arith}
 use lib.ListN.{length, getD}
-use Rattle.ring.proofs.Places.{Pushing, pushing-none, pushing-long, pushing-more, pushing-past, pushing-all}
+use Rattle.ring.proofs.Places.{Pushing, pushing-none, pushing-more, pushing-past, pushing-all}
 use Rattle.ring.proofs.largest.put.Statement.{statement}
 use Rattle.ring.proofs.largest.put.Tie as tie
 
@@ -13,41 +14,14 @@ Inv-loop x slots₀ moving₀ i₀ slots moving i = Pushing x slots₀ moving i 
 abbrev μ-loop : tie.MeasureT-loop
 μ-loop x slots₀ moving₀ i₀ slots moving i = length slots₀ - i
 
-inside : (c : tie.In-loop Inv-loop μ-loop) → c .before .loop .i < length (c .before .before .args .slots .now)
-inside c = omega (arith, pushing-long (c .before .loop .inv))
-
-loop-holds : tie.Need-loop-holds Inv-loop μ-loop
-loop-holds c = pushing-none (c .args .x) (c .args .slots .now)
-
-mul-held : tie.Need-mul-held Inv-loop μ-loop
-mul-held c = omega (arith, inside c)
-
-slice-read-held : tie.Need-slice-read-held Inv-loop μ-loop
-slice-read-held c = omega arith
-
-mul-slots : tie.Need-mul-slots Inv-loop μ-loop
-mul-slots c = omega (arith, inside (c .before .before))
-
-slice-write-slots : tie.Need-slice-write-slots Inv-loop μ-loop
-slice-write-slots c = omega arith
-
-add-i : tie.Need-add-i Inv-loop μ-loop
-add-i c = omega (arith, inside (c .before .before))
-
-loop-less : tie.Need-loop-less Inv-loop μ-loop
-loop-less c = omega (arith, inside (c .before .before))
-
 loop-again : tie.Need-loop-again Inv-loop μ-loop
 loop-again c =
     let here = c .before .before .before .loop in
     ⊎-elim (λ w. rw (w .1, w .2) (pushing-more (here .inv) (omega arith) (here .moving) (getD (here .slots) (here .i) 0) (omega arith) (omega arith)))
     (λ w. rw (w .1, w .2) (pushing-past (here .inv) (omega arith) (omega arith))) (c .if1 .came)
 
-same-length : tie.Need-same-length Inv-loop μ-loop
-same-length c = pushing-long (c .before .loop .inv)
-
 returns : tie.Need-returns Inv-loop μ-loop
-returns c = pushing-all (c .before .loop .inv) (omega arith)
+returns c = search (pushing-all, needs)
 
 pub put-spec : {M : Type 1} → statement M
 put-spec =
@@ -55,13 +29,13 @@ put-spec =
     (tie.spec
     Inv-loop
     μ-loop
-    loop-holds
-    mul-held
-    slice-read-held
-    mul-slots
-    slice-write-slots
-    add-i
-    loop-less
+    (λ c. pushing-none _ _)
+    (λ c. omega arith)
+    (λ c. omega arith)
+    (λ c. search needs)
+    (λ c. omega arith)
+    (λ c. search needs)
+    (λ c. omega arith)
     loop-again
-    same-length
+    (λ c. search needs)
     returns)

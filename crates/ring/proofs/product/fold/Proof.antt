@@ -11,45 +11,14 @@ Inv-loop x y acc multiple n sum₀ i₀ sum i = (i ≤ n) × After multiple acc 
 abbrev μ-loop : tie.MeasureT-loop
 μ-loop x y acc multiple n sum₀ i₀ sum i = n - i
 
-loop-holds : tie.Need-loop-holds Inv-loop μ-loop
-loop-holds c = (search needs, after-none (c .before .before .pre .start))
-
-mul-added : tie.Need-mul-added Inv-loop μ-loop
-mul-added c = search needs
-
-shared-slice-read-added : tie.Need-shared-slice-read-added Inv-loop μ-loop
-shared-slice-read-added c = search needs
-
-sub-added : tie.Need-sub-added Inv-loop μ-loop
-sub-added c = search needs
-
-sub-added-2 : tie.Need-sub-added-2 Inv-loop μ-loop
-sub-added-2 c = search needs
-
-mul-added-2 : tie.Need-mul-added-2 Inv-loop μ-loop
-mul-added-2 c = search needs
-
-shared-slice-read-added-2 : tie.Need-shared-slice-read-added-2 Inv-loop μ-loop
-shared-slice-read-added-2 c = search needs
-
 added-requires : tie.Need-added-requires Inv-loop μ-loop
-added-requires c κs =
-    let h = c .before .before .before in
-    next-fits (h .before .before .before .pre) (c .before .before .loop-test .taken) (h .loop .inv .1)
-
-add-i : tie.Need-add-i Inv-loop μ-loop
-add-i c = search needs
-
-loop-less : tie.Need-loop-less Inv-loop μ-loop
-loop-less c = search needs
+added-requires c κs = search (next-fits, needs)
 
 loop-again : tie.Need-loop-again Inv-loop μ-loop
-loop-again c =
-    let h = c .before .before .before .before in
-    (search needs, after-more (h .loop .inv .1) (c .added .ensures))
+loop-again c = search (after-more, needs)
 
 returns : tie.Need-returns Inv-loop μ-loop
-returns c = after-all (c .before .loop .inv .0) (c .loop-test .left) (c .before .loop .inv .1)
+returns c = search (after-all, needs)
 
 pub fold-spec : {M : Type 1} → statement M
 fold-spec =
@@ -57,15 +26,15 @@ fold-spec =
     (tie.spec
     Inv-loop
     μ-loop
-    loop-holds
-    mul-added
-    shared-slice-read-added
-    sub-added
-    sub-added-2
-    mul-added-2
-    shared-slice-read-added-2
+    (λ c. search (after-none, needs))
+    (λ c. search needs)
+    (λ c. search needs)
+    (λ c. search needs)
+    (λ c. search needs)
+    (λ c. search needs)
+    (λ c. search needs)
     added-requires
-    add-i
-    loop-less
+    (λ c. search needs)
+    (λ c. search needs)
     loop-again
     returns)

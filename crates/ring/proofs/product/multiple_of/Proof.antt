@@ -6,9 +6,6 @@ use Rattle.ring.proofs.ProductLaws.{multiple-is}
 use Rattle.ring.proofs.product.multiple_of.Statement.{statement}
 use Rattle.ring.proofs.product.multiple_of.Tie as tie
 
-div-result : tie.Need-div-result
-div-result c = search needs
-
 mul-result : tie.Need-mul-result
 mul-result c = record { fits = lt-of-le-of-lt (mul-div-le _ (c .args .q)) (lit< tt) }
 
@@ -16,4 +13,4 @@ returns : tie.Need-returns
 returns c = multiple-is (c .args .q) (c .pre .0) (c .pre .1)
 
 pub multiple-of-spec : {M : Type 1} → statement M
-multiple-of-spec = tie.close (tie.spec div-result mul-result returns)
+multiple-of-spec = tie.close (tie.spec (λ c. search needs) mul-result returns)

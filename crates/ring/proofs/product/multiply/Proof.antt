@@ -6,7 +6,7 @@ use lib.ListN.{length}
 use Rattle.whole.specs.Residue.{residue}
 use Rattle.ring.specs.Product.{mul}
 use Rattle.ring.specs.Lists.{naturals}
-use Rattle.whole.specs.Fill.{Wrote, wrote-none, wrote-more, wrote-all, wrote-long}
+use Rattle.whole.specs.Fill.{Wrote, wrote-none, wrote-more, wrote-all}
 use Rattle.ring.proofs.ProductLaws.{row-fits, row-of}
 use Rattle.ring.proofs.product.multiply.Statement.{statement}
 use Rattle.ring.proofs.product.multiply.Tie as tie
@@ -17,41 +17,17 @@ Inv-loop a b q out₀ multiple n k₀ out k = Wrote (λ j. residue q (mul (lengt
 abbrev μ-loop : tie.MeasureT-loop
 μ-loop a b q out₀ multiple n k₀ out k = n - k
 
-multiple-of-requires : tie.Need-multiple-of-requires Inv-loop μ-loop
-multiple-of-requires c κs = search needs
-
-loop-holds : tie.Need-loop-holds Inv-loop μ-loop
-loop-holds c = wrote-none
-
 row-requires : tie.Need-row-requires Inv-loop μ-loop
-row-requires c κs =
-    row-fits (c .before .before .before .before .before .before .pre) (c .before .before .multiple-of .ensures) (c .loop-test .taken)
-
-mul-out : tie.Need-mul-out Inv-loop μ-loop
-mul-out c = search needs
-
-slice-write-out : tie.Need-slice-write-out Inv-loop μ-loop
-slice-write-out c =
-    let start = c .before .before .before .before .before .before .before in
-    omega (arith, wrote-long (c .before .before .loop .inv), c .before .loop-test .taken, start .pre .a-long)
-
-add-k : tie.Need-add-k Inv-loop μ-loop
-add-k c = search needs
-
-loop-less : tie.Need-loop-less Inv-loop μ-loop
-loop-less c = search needs
+row-requires c κs = search (row-fits, needs)
 
 loop-again : tie.Need-loop-again Inv-loop μ-loop
 loop-again c =
-    let start = c .before .before .before .before .before .before .before in
-    let at = c .before .before .loop in
-    wrote-more (at .inv) (omega (arith, c .before .loop-test .taken, start .pre .a-long, wrote-long (at .inv))) (row-of (start .pre) (at .k) (c .row .ensures))
-
-same-length : tie.Need-same-length Inv-loop μ-loop
-same-length c = wrote-long (c .before .loop .inv)
+    let l = c .before .before in
+    let p = l .before .before .before .before .before in
+    wrote-more (l .loop .inv) (omega arith) (row-of (p .pre) (l .loop .k) (c .row .ensures))
 
 returns : tie.Need-returns Inv-loop μ-loop
-returns c = wrote-all (c .before .loop .inv) (omega (arith, wrote-long (c .before .loop .inv)))
+returns c = wrote-all (c .before .loop .inv) (omega arith)
 
 pub multiply-spec : {M : Type 1} → statement M
 multiply-spec =
@@ -59,13 +35,13 @@ multiply-spec =
     (tie.spec
     Inv-loop
     μ-loop
-    multiple-of-requires
-    loop-holds
+    (λ c κs. search needs)
+    (λ c. wrote-none)
     row-requires
-    mul-out
-    slice-write-out
-    add-k
-    loop-less
+    (λ c. search needs)
+    (λ c. omega arith)
+    (λ c. search needs)
+    (λ c. search needs)
     loop-again
-    same-length
+    (λ c. search needs)
     returns)

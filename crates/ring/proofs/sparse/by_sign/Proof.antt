@@ -4,14 +4,11 @@ use Rattle.ring.proofs.SparseLaws.{near-by-plus, near-by-minus, is-plus
 use Rattle.ring.proofs.sparse.by_sign.Statement.{statement}
 use Rattle.ring.proofs.sparse.by_sign.Tie as tie
 
-sub-result : tie.Need-sub-result
-sub-result c = search needs
-
 returns : tie.Need-returns
-returns c = near-by-plus (c .before .pre .0) (is-plus (c .before .pre .1) (c .if1 .taken))
+returns c = search (near-by-plus, is-plus, needs)
 
 returns-2 : tie.Need-returns-2
-returns-2 c = near-by-minus (c .before .pre .0) (is-minus (c .before .pre .1) (c .if1 .left))
+returns-2 c = search (near-by-minus, is-minus, needs)
 
 pub by-sign-spec : {M : Type 1} → statement M
-by-sign-spec = tie.close (tie.spec sub-result returns returns-2)
+by-sign-spec = tie.close (tie.spec (λ c. search needs) returns returns-2)

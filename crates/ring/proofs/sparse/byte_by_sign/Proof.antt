@@ -1,16 +1,19 @@
 -- `ring::sparse::byte_by_sign` meets its contract. Assumes nothing.
-use Rattle.ring.proofs.SparseLaws.{by-plus, by-minus, minus-fits, is-plus, is-minus}
+use borrow.Author.Needs.{needs}
+use native.Mathlib.Omega.{arith}
+use Rattle.ring.proofs.Numbers.{minus-fits}
+use Rattle.ring.proofs.SparseLaws.{by-plus, by-minus, is-plus, is-minus}
 use Rattle.ring.proofs.sparse.byte_by_sign.Statement.{statement}
 use Rattle.ring.proofs.sparse.byte_by_sign.Tie as tie
 
 sub-result : tie.Need-sub-result
-sub-result c = minus-fits (c .before .args .v) (c .before .fits .v) (c .before .pre .0)
+sub-result c = minus-fits (c .before .args .v) (c .before .fits .v) (omega arith)
 
 returns : tie.Need-returns
-returns c = by-plus (c .before .args .v) (c .before .args .sign) (c .before .fits .v) (is-plus (c .before .pre .1) (c .if1 .taken))
+returns c = search (by-plus, is-plus, needs)
 
 returns-2 : tie.Need-returns-2
-returns-2 c = by-minus (c .before .args .v) (c .before .args .sign) (c .before .fits .v) (c .before .pre .0) (is-minus (c .before .pre .1) (c .if1 .left))
+returns-2 c = search (by-minus, is-minus, needs)
 
 pub byte-by-sign-spec : {M : Type 1} → statement M
 byte-by-sign-spec = tie.close (tie.spec sub-result returns returns-2)

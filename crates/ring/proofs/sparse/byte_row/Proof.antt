@@ -1,14 +1,13 @@
 -- `ring::sparse::byte_row` meets its contract. The loop's invariant: the sum is that of the first j terms. Assumes nothing.
-use borrow.Author.Needs.{needs, sfits-of}
+use borrow.Author.Needs.{needs}
 use native.Mathlib.Omega.{arith}
-use Prim.Native.Nat.{_+_, _-_, _≤_}
+use Prim.Native.Nat.{_-_, _≤_}
 use lib.ListN.{length}
-use lib.IntN.{_+ℤ_}
 use Rattle.ring.specs.Lists.{signedBytes}
 use mir.Syntax.{w32}
-use mir.Val.{toZ, ofZ}
-use mir.Facts.{toZ-ofZ}
-use Rattle.ring.proofs.SparseLaws.{ByteSummed, byte-summed-none, byte-summed-more, byte-summed-fits, byte-summed-all, sign-at, sign-as-read}
+use mir.Val.{toZ}
+use Rattle.whole.specs.Below.{below-at}
+use Rattle.ring.proofs.SparseLaws.{ByteSummed, byte-summed-none, byte-summed-fits, byte-summed-next, byte-summed-all, sign-at, sign-as-read}
 use Rattle.ring.proofs.sparse.byte_row.Statement.{statement}
 use Rattle.ring.proofs.sparse.byte_row.Tie as tie
 
@@ -21,57 +20,23 @@ abbrev μ-loop : tie.MeasureT-loop
 loop-holds : tie.Need-loop-holds Inv-loop μ-loop
 loop-holds c = (search needs, byte-summed-none)
 
-mul-turned-byte : tie.Need-mul-turned-byte Inv-loop μ-loop
-mul-turned-byte c = search needs
-
-shared-slice-read-turned-byte : tie.Need-shared-slice-read-turned-byte Inv-loop μ-loop
-shared-slice-read-turned-byte c = search needs
-
 cast-turned-byte : tie.Need-cast-turned-byte Inv-loop μ-loop
 cast-turned-byte c = omega (arith, c .shared-slice-known3 .given (c .before .before .loop .j) .fits)
 
 turned-byte-requires : tie.Need-turned-byte-requires Inv-loop μ-loop
-turned-byte-requires c κs =
-    let start = c .before .before .before .before .before in
-    (start .pre .terms .inside .at (c .before .before .loop .j) (c .before .loop-test .taken), start .pre .inside)
-
-shared-slice-copy-out-byte-by-sign : tie.Need-shared-slice-copy-out-byte-by-sign Inv-loop μ-loop
-shared-slice-copy-out-byte-by-sign c =
-    let start = c .before .before .before .before .before .before in
-    omega (arith, start .pre .terms .paired, c .before .before .loop-test .taken)
+turned-byte-requires c κs = search (below-at, needs)
 
 byte-by-sign-requires : tie.Need-byte-by-sign-requires Inv-loop μ-loop
-byte-by-sign-requires c κs =
-    let start = c .before .before .before .before .before .before .before in
-    let v = c .before .turned-byte in
-    (rw (toZ-ofZ (sfits-of (v .ok))) (v .ensures .1), sign-as-read (sign-at (start .pre .terms) (c .before .before .before .before .loop .j) (c .before .before .before .loop-test .taken)))
-
--- the sum with term j
-summed : (c : tie.After-byte-by-sign Inv-loop μ-loop) → let args = c .before .before .before .before .before .before .before .before .args in let at = c .before .before .before .before .before .loop in ByteSummed (length (args .s .now)) (signedBytes (args .s .now)) (args .positions .now) (args .signs .now) (args .k) (at .j + 1) (toZ w32 (at .sum) +ℤ toZ w32 (ofZ w32 (c .byte-by-sign .result)))
-summed c =
-    let start = c .before .before .before .before .before .before .before .before in
-    let at = c .before .before .before .before .before .loop in
-    let v = c .before .before .turned-byte in
-    let r = c .byte-by-sign in
-    let sign = sign-at (start .pre .terms) (at .j) (c .before .before .before .before .loop-test .taken) in
-    byte-summed-more sign (sfits-of (v .ok)) (sfits-of (r .ok)) (v .ensures) (r .ensures) (at .inv .1)
+byte-by-sign-requires c κs = search (sign-as-read, sign-at, needs)
 
 add-sum : tie.Need-add-sum Inv-loop μ-loop
-add-sum c =
-    let start = c .before .before .before .before .before .before .before .before in
-    byte-summed-fits (omega (arith, start .pre .few, c .before .before .before .before .loop-test .taken)) (summed c)
-
-add-j : tie.Need-add-j Inv-loop μ-loop
-add-j c = search needs
-
-loop-less : tie.Need-loop-less Inv-loop μ-loop
-loop-less c = search needs
+add-sum c = search (byte-summed-fits, needs)
 
 loop-again : tie.Need-loop-again Inv-loop μ-loop
-loop-again c = (search needs, rw (toZ-ofZ (add-sum c)) (summed c))
+loop-again c = (search needs, search (byte-summed-next, needs))
 
 returns : tie.Need-returns Inv-loop μ-loop
-returns c = byte-summed-all (c .before .before .before .before .pre .terms .paired) (c .before .loop .inv .0) (c .loop-test .left) (c .before .loop .inv .1)
+returns c = search (byte-summed-all, needs)
 
 pub byte-row-spec : {M : Type 1} → statement M
 byte-row-spec =
@@ -80,14 +45,14 @@ byte-row-spec =
     Inv-loop
     μ-loop
     loop-holds
-    mul-turned-byte
-    shared-slice-read-turned-byte
+    (λ c. search needs)
+    (λ c. search needs)
     cast-turned-byte
     turned-byte-requires
-    shared-slice-copy-out-byte-by-sign
+    (λ c. search needs)
     byte-by-sign-requires
     add-sum
-    add-j
-    loop-less
+    (λ c. search needs)
+    (λ c. search needs)
     loop-again
     returns)

@@ -7,7 +7,7 @@ use Rattle.whole.specs.Residue.{residue}
 use Rattle.ring.specs.Product.{mul}
 use Rattle.ring.specs.Lists.{naturals}
 use Rattle.ring.specs.Sparse.{sparse}
-use Rattle.whole.specs.Fill.{Wrote, wrote-none, wrote-more, wrote-all, wrote-long}
+use Rattle.whole.specs.Fill.{Wrote, wrote-none, wrote-more, wrote-all}
 use Rattle.ring.proofs.SparseLaws.{sparse-row-fits, sparse-row-of}
 use Rattle.ring.proofs.sparse.times.Statement.{statement}
 use Rattle.ring.proofs.sparse.times.Tie as tie
@@ -18,38 +18,17 @@ Inv-loop t q positions signs out₀ n k₀ out k = Wrote (λ j. residue q (mul (
 abbrev μ-loop : tie.MeasureT-loop
 μ-loop t q positions signs out₀ n k₀ out k = n - k
 
-loop-holds : tie.Need-loop-holds Inv-loop μ-loop
-loop-holds c = wrote-none
-
 row-requires : tie.Need-row-requires Inv-loop μ-loop
-row-requires c κs = sparse-row-fits (c .before .before .before .before .before .pre) (c .loop-test .taken)
-
-mul-out : tie.Need-mul-out Inv-loop μ-loop
-mul-out c = search needs
-
-slice-write-out : tie.Need-slice-write-out Inv-loop μ-loop
-slice-write-out c =
-    let start = c .before .before .before .before .before .before in
-    omega (arith, wrote-long (c .before .before .loop .inv), c .before .loop-test .taken, start .pre .long)
-
-add-k : tie.Need-add-k Inv-loop μ-loop
-add-k c = search needs
-
-loop-less : tie.Need-loop-less Inv-loop μ-loop
-loop-less c = search needs
+row-requires c κs = search (sparse-row-fits, needs)
 
 loop-again : tie.Need-loop-again Inv-loop μ-loop
 loop-again c =
-    let start = c .before .before .before .before .before .before in
-    let at = c .before .before .loop in
-    let inside = c .before .loop-test .taken in
-    wrote-more (at .inv) (omega (arith, inside, start .pre .long, wrote-long (at .inv))) (sparse-row-of (start .pre) (at .k) inside (c .row .ensures))
-
-same-length : tie.Need-same-length Inv-loop μ-loop
-same-length c = wrote-long (c .before .loop .inv)
+    let l = c .before .before in
+    let p = l .before .before .before .before in
+    wrote-more (l .loop .inv) (omega arith) (sparse-row-of (p .pre) (l .loop .k) (c .before .loop-test .taken) (c .row .ensures))
 
 returns : tie.Need-returns Inv-loop μ-loop
-returns c = wrote-all (c .before .loop .inv) (omega (arith, c .loop-test .left, c .before .before .before .before .before .pre .long, wrote-long (c .before .loop .inv)))
+returns c = wrote-all (c .before .loop .inv) (omega arith)
 
 pub times-spec : {M : Type 1} → statement M
 times-spec =
@@ -57,12 +36,12 @@ times-spec =
     (tie.spec
     Inv-loop
     μ-loop
-    loop-holds
+    (λ c. wrote-none)
     row-requires
-    mul-out
-    slice-write-out
-    add-k
-    loop-less
+    (λ c. search needs)
+    (λ c. omega arith)
+    (λ c. search needs)
+    (λ c. search needs)
     loop-again
-    same-length
+    (λ c. search needs)
     returns)

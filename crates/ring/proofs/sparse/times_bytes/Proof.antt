@@ -6,7 +6,7 @@ use lib.ListN.{length}
 use Rattle.ring.specs.Product.{mul}
 use Rattle.ring.specs.Lists.{signedBytes}
 use Rattle.ring.specs.Sparse.{sparse}
-use Rattle.whole.specs.Fill.{Wrote, wrote-none, wrote-more, wrote-all, wrote-long}
+use Rattle.whole.specs.Fill.{Wrote, wrote-none, wrote-more, wrote-all}
 use Rattle.ring.proofs.SparseLaws.{byte-row-fits, byte-row-of}
 use Rattle.ring.proofs.sparse.times_bytes.Statement.{statement}
 use Rattle.ring.proofs.sparse.times_bytes.Tie as tie
@@ -17,38 +17,17 @@ Inv-loop s positions signs out₀ n k₀ out k = Wrote (mul (length out₀) (sig
 abbrev μ-loop : tie.MeasureT-loop
 μ-loop s positions signs out₀ n k₀ out k = n - k
 
-loop-holds : tie.Need-loop-holds Inv-loop μ-loop
-loop-holds c = wrote-none
-
 byte-row-requires : tie.Need-byte-row-requires Inv-loop μ-loop
-byte-row-requires c κs = byte-row-fits (c .before .before .before .before .pre) (c .loop-test .taken)
-
-mul-t9 : tie.Need-mul-t9 Inv-loop μ-loop
-mul-t9 c = search needs
-
-slice-set-from-out : tie.Need-slice-set-from-out Inv-loop μ-loop
-slice-set-from-out c =
-    let start = c .before .before .before .before .before in
-    omega (arith, wrote-long (c .before .before .loop .inv), c .before .loop-test .taken, start .pre .long)
-
-add-k : tie.Need-add-k Inv-loop μ-loop
-add-k c = search needs
-
-loop-less : tie.Need-loop-less Inv-loop μ-loop
-loop-less c = search needs
+byte-row-requires c κs = search (byte-row-fits, needs)
 
 loop-again : tie.Need-loop-again Inv-loop μ-loop
 loop-again c =
-    let start = c .before .before .before .before .before in
-    let at = c .before .before .loop in
-    let inside = c .before .loop-test .taken in
-    wrote-more (at .inv) (omega (arith, inside, start .pre .long, wrote-long (at .inv))) (byte-row-of (start .pre) (at .k) inside (sfits-of (c .byte-row .ok)) (c .byte-row .ensures))
-
-same-length : tie.Need-same-length Inv-loop μ-loop
-same-length c = wrote-long (c .before .loop .inv)
+    let l = c .before .before in
+    let p = l .before .before .before in
+    wrote-more (l .loop .inv) (omega arith) (byte-row-of (p .pre) (l .loop .k) (c .before .loop-test .taken) (sfits-of (c .byte-row .ok)) (c .byte-row .ensures))
 
 returns : tie.Need-returns Inv-loop μ-loop
-returns c = wrote-all (c .before .loop .inv) (omega (arith, c .loop-test .left, c .before .before .before .before .pre .long, wrote-long (c .before .loop .inv)))
+returns c = wrote-all (c .before .loop .inv) (omega arith)
 
 pub times-bytes-spec : {M : Type 1} → statement M
 times-bytes-spec =
@@ -56,12 +35,12 @@ times-bytes-spec =
     (tie.spec
     Inv-loop
     μ-loop
-    loop-holds
+    (λ c. wrote-none)
     byte-row-requires
-    mul-t9
-    slice-set-from-out
-    add-k
-    loop-less
+    (λ c. search needs)
+    (λ c. omega arith)
+    (λ c. search needs)
+    (λ c. search needs)
     loop-again
-    same-length
+    (λ c. search needs)
     returns)

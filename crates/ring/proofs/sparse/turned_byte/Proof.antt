@@ -2,27 +2,10 @@
 use borrow.Author.Needs.{needs, sfits-of}
 use Prim.Native.Nat.{_+_, _-_}
 use lib.ListN.{length, getD}
-use Rattle.ring.proofs.SparseLaws.{byte-turn-low, byte-turn-high, minus-fits, signed-small}
+use Rattle.ring.proofs.Numbers.{minus-fits}
+use Rattle.ring.proofs.SparseLaws.{byte-turn-low, byte-turn-high, signed-small}
 use Rattle.ring.proofs.sparse.turned_byte.Statement.{statement}
 use Rattle.ring.proofs.sparse.turned_byte.Tie as tie
-
-shared-slice-read-signed-byte : tie.Need-shared-slice-read-signed-byte
-shared-slice-read-signed-byte c = search needs
-
-signed-byte-requires : tie.Need-signed-byte-requires
-signed-byte-requires c κs = search needs
-
-add-signed-byte : tie.Need-add-signed-byte
-add-signed-byte c = search needs
-
-sub-signed-byte : tie.Need-sub-signed-byte
-sub-signed-byte c = search needs
-
-shared-slice-read-signed-byte-2 : tie.Need-shared-slice-read-signed-byte-2
-shared-slice-read-signed-byte-2 c = search needs
-
-signed-byte-requires-2 : tie.Need-signed-byte-requires-2
-signed-byte-requires-2 c κs = search needs
 
 sub-result : tie.Need-sub-result
 sub-result c =
@@ -47,12 +30,12 @@ pub turned-byte-spec : {M : Type 1} → statement M
 turned-byte-spec =
     tie.close
     (tie.spec
-    shared-slice-read-signed-byte
-    signed-byte-requires
-    add-signed-byte
-    sub-signed-byte
-    shared-slice-read-signed-byte-2
-    signed-byte-requires-2
+    (λ c. search needs)
+    (λ c κs. search needs)
+    (λ c. search needs)
+    (λ c. search needs)
+    (λ c. search needs)
+    (λ c κs. search needs)
     sub-result
     returns
     returns-2)

@@ -1,12 +1,13 @@
 -- `ring::sums::add_exact` meets its contract: the loop has written the results at the first i places. Assumes nothing.
+use borrow.Author.Needs.{needs}
 use mathlib.Core.Path.{_∙_}
-use Prim.Native.Nat.{_-_, _<_}
+use Prim.Native.Nat.{_-_}
 use native.Mathlib.Omega.{arith}
 use lib.ListN.{length}
 use lib.IntN.{pos, _+ℤ_}
 use mir.Facts.{toZ-ofZ}
 use Rattle.ring.specs.Lists.{integers}
-use Rattle.whole.specs.Fill.{Wrote, wrote-none, wrote-long, wrote-all, wrote-next}
+use Rattle.whole.specs.Fill.{Wrote, wrote-none, wrote-more, wrote-ahead, wrote-all}
 use Rattle.ring.proofs.Loops.{summands-are, sum-fits}
 use Rattle.ring.proofs.sums.add_exact.Statement.{statement}
 use Rattle.ring.proofs.sums.add_exact.Tie as tie
@@ -17,54 +18,17 @@ Inv-loop y₀ x i₀ y i = Wrote (λ k. integers y₀ k +ℤ integers x k) y₀ 
 abbrev μ-loop : tie.MeasureT-loop
 μ-loop y₀ x i₀ y i = length y₀ - i
 
-inside : (c : tie.In-loop Inv-loop μ-loop) → c .before .loop .i < length (c .before .before .args .y .now)
-inside c = omega (arith, wrote-long (c .before .loop .inv))
-
-loop-holds : tie.Need-loop-holds Inv-loop μ-loop
-loop-holds c = wrote-none
-
-mul-y : tie.Need-mul-y Inv-loop μ-loop
-mul-y c = omega (arith, inside c)
-
-slice-copy-out-y : tie.Need-slice-copy-out-y Inv-loop μ-loop
-slice-copy-out-y c = omega arith
-
-mul-y-2 : tie.Need-mul-y-2 Inv-loop μ-loop
-mul-y-2 c = omega (arith, inside (c .before))
-
-shared-slice-copy-out-y : tie.Need-shared-slice-copy-out-y Inv-loop μ-loop
-shared-slice-copy-out-y c = omega (arith, inside (c .before))
-
 add-y : tie.Need-add-y Inv-loop μ-loop
-add-y c =
-    let start = c .before .before .before .before in
-    let here = c .before .before .before .loop in
-    rw (summands-are (start .pre) (here .inv) (omega arith)) (sum-fits (start .pre) (here .inv) (omega arith))
-
-mul-t12 : tie.Need-mul-t12 Inv-loop μ-loop
-mul-t12 c = omega (arith, inside (c .before .before))
-
-slice-set-from-y : tie.Need-slice-set-from-y Inv-loop μ-loop
-slice-set-from-y c = omega arith
-
-add-i : tie.Need-add-i Inv-loop μ-loop
-add-i c = omega (arith, inside (c .before .before))
-
-loop-less : tie.Need-loop-less Inv-loop μ-loop
-loop-less c = omega (arith, inside (c .before .before))
+add-y c = search (sum-fits, needs)
 
 loop-again : tie.Need-loop-again Inv-loop μ-loop
 loop-again c =
-    let start = c .before .before .before .before in
-    let here = c .before .before .before .loop in
-    wrote-next (λ k z. z +ℤ integers (start .args .x .now) k) (pos 0) (here .inv) (omega arith)
-    (toZ-ofZ (add-y c) ∙ summands-are (start .pre) (here .inv) (omega arith))
-
-same-length : tie.Need-same-length Inv-loop μ-loop
-same-length c = wrote-long (c .before .loop .inv)
+    let l = c .before .before .before in
+    wrote-more (l .loop .inv) (omega arith)
+    (toZ-ofZ (add-y c) ∙ summands-are (l .before .pre) (l .loop .inv) (omega arith) ∙ rw (wrote-ahead (pos 0) (l .loop .inv)))
 
 returns : tie.Need-returns Inv-loop μ-loop
-returns c = wrote-all (c .before .loop .inv) (omega arith)
+returns c = search (wrote-all, needs)
 
 pub add-exact-spec : {M : Type 1} → statement M
 add-exact-spec =
@@ -72,16 +36,16 @@ add-exact-spec =
     (tie.spec
     Inv-loop
     μ-loop
-    loop-holds
-    mul-y
-    slice-copy-out-y
-    mul-y-2
-    shared-slice-copy-out-y
+    (λ c. wrote-none)
+    (λ c. omega arith)
+    (λ c. omega arith)
+    (λ c. search needs)
+    (λ c. omega arith)
     add-y
-    mul-t12
-    slice-set-from-y
-    add-i
-    loop-less
+    (λ c. search needs)
+    (λ c. omega arith)
+    (λ c. search needs)
+    (λ c. omega arith)
     loop-again
-    same-length
+    (λ c. search needs)
     returns)

@@ -4,17 +4,11 @@ use borrow.Author.Needs.{needs}
 use Rattle.ring.proofs.sums.minus.Statement.{statement}
 use Rattle.ring.proofs.sums.minus.Tie as tie
 
-add-result : tie.Need-add-result
-add-result c = search needs
-
-sub-result : tie.Need-sub-result
-sub-result c = search needs
-
 returns : tie.Need-returns
-returns c = minus-low (c .before .args .q) (c .before .args .a) (c .before .args .b) (c .before .pre) (c .if1 .taken)
+returns c = search (minus-low, needs)
 
 returns-2 : tie.Need-returns-2
-returns-2 c = minus-high (c .before .args .q) (c .before .args .a) (c .before .args .b) (c .before .pre) (c .if1 .left)
+returns-2 c = search (minus-high, needs)
 
 pub minus-spec : {M : Type 1} → statement M
-minus-spec = tie.close (tie.spec add-result sub-result returns returns-2)
+minus-spec = tie.close (tie.spec (λ c. search needs) (λ c. search needs) returns returns-2)

@@ -9,9 +9,6 @@ use Rattle.whole.specs.Twos.{signed, signed-size}
 use Rattle.ring.proofs.sums.plus_byte.Statement.{statement}
 use Rattle.ring.proofs.sums.plus_byte.Tie as tie
 
-signed-byte-requires : tie.Need-signed-byte-requires
-signed-byte-requires c κs = search needs
-
 is : (c : tie.After-signed-byte) → toZ w32 (ofZ w32 (c .signed-byte .result)) ≡ signed 8 (c .before .args .b)
 is c = toZ-ofZ (sfits-of (c .signed-byte .ok)) ∙ c .signed-byte .ensures
 
@@ -22,4 +19,4 @@ returns : tie.Need-returns
 returns c = c .plus .ensures ∙ rw (is (c .before))
 
 pub plus-byte-spec : {M : Type 1} → statement M
-plus-byte-spec = tie.close (tie.spec signed-byte-requires plus-requires returns)
+plus-byte-spec = tie.close (tie.spec (λ c κs. search needs) plus-requires returns)

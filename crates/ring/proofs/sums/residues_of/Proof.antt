@@ -1,13 +1,14 @@
 -- `ring::sums::residues_of` meets its contract: the loop has written the results at the first i places. Assumes nothing.
-use mathlib.Core.Path.{ap, _∙_}
-use Prim.Native.Nat.{_-_, _<_}
+use borrow.Author.Needs.{needs}
+use mathlib.Core.Path.{_∙_}
+use Prim.Native.Nat.{_-_}
 use native.Mathlib.Omega.{arith}
 use lib.ListN.{length}
-use lib.IntN.{ℤ, pos, _+ℤ_, +ℤ-idl}
+use lib.IntN.{+ℤ-idl}
 use Rattle.whole.specs.Residue.{residue}
 use Rattle.ring.specs.Lists.{integers}
-use Rattle.whole.specs.Fill.{Wrote, wrote-none, wrote-long, wrote-more, wrote-all}
-use Rattle.ring.proofs.Loops.{small-at}
+use Rattle.whole.specs.Fill.{Wrote, wrote-none, wrote-more, wrote-all}
+use Rattle.ring.proofs.Loops.{more-at, small-at}
 use Rattle.ring.proofs.sums.residues_of.Statement.{statement}
 use Rattle.ring.proofs.sums.residues_of.Tie as tie
 
@@ -17,54 +18,16 @@ Inv-loop z q out₀ i₀ out i = Wrote (λ k. residue q (integers z k)) out₀ i
 abbrev μ-loop : tie.MeasureT-loop
 μ-loop z q out₀ i₀ out i = length out₀ - i
 
-inside : (c : tie.In-loop Inv-loop μ-loop) → c .before .loop .i < length (c .before .before .before .args .out .now)
-inside c = omega (arith, wrote-long (c .before .loop .inv))
-
-loop-holds : tie.Need-loop-holds Inv-loop μ-loop
-loop-holds c = wrote-none
-
-mul-plus : tie.Need-mul-plus Inv-loop μ-loop
-mul-plus c = omega (arith, inside c)
-
-shared-slice-copy-out-plus : tie.Need-shared-slice-copy-out-plus Inv-loop μ-loop
-shared-slice-copy-out-plus c = omega (arith, inside c)
-
 plus-requires : tie.Need-plus-requires Inv-loop μ-loop
-plus-requires c κs =
-    let start = c .before .before .before .before in
-    rw (small-at (start .pre) (inside (c .before)))
-    (record {
-      small = start .pre .small;
-      residue = start .pre .some;
-      near = start .pre .within .at (c .before .before .loop .i) (omega (arith, inside (c .before)));
-    })
-
-mul-out : tie.Need-mul-out Inv-loop μ-loop
-mul-out c = omega (arith, inside (c .before .before))
-
-slice-write-out : tie.Need-slice-write-out Inv-loop μ-loop
-slice-write-out c = omega arith
-
-add-i : tie.Need-add-i Inv-loop μ-loop
-add-i c = omega (arith, inside (c .before .before))
-
-loop-less : tie.Need-loop-less Inv-loop μ-loop
-loop-less c = omega (arith, inside (c .before .before))
+plus-requires c κs = search (more-at, needs)
 
 loop-again : tie.Need-loop-again Inv-loop μ-loop
 loop-again c =
-    let start = c .before .before .before .before .before in
-    let here = c .before .before .before .loop in
-    wrote-more (here .inv) (omega arith)
-    (c .plus .ensures
-    ∙ ap (λ (z : ℤ). residue (start .args .q) (pos 0 +ℤ z)) (small-at (start .pre) (inside (c .before .before)))
-    ∙ ap (residue (start .args .q)) (+ℤ-idl (integers (start .args .z .now) (here .i))))
-
-same-length : tie.Need-same-length Inv-loop μ-loop
-same-length c = wrote-long (c .before .loop .inv)
+    let l = c .before .before .before in
+    wrote-more (l .loop .inv) (omega arith) (c .plus .ensures ∙ rw (small-at (l .before .before .pre) (l .loop .inv) (omega arith), +ℤ-idl))
 
 returns : tie.Need-returns Inv-loop μ-loop
-returns c = wrote-all (c .before .loop .inv) (omega arith)
+returns c = search (wrote-all, needs)
 
 pub residues-of-spec : {M : Type 1} → statement M
 residues-of-spec =
@@ -72,14 +35,14 @@ residues-of-spec =
     (tie.spec
     Inv-loop
     μ-loop
-    loop-holds
-    mul-plus
-    shared-slice-copy-out-plus
+    (λ c. wrote-none)
+    (λ c. omega arith)
+    (λ c. omega arith)
     plus-requires
-    mul-out
-    slice-write-out
-    add-i
-    loop-less
+    (λ c. search needs)
+    (λ c. omega arith)
+    (λ c. search needs)
+    (λ c. omega arith)
     loop-again
-    same-length
+    (λ c. search needs)
     returns)

@@ -21,11 +21,8 @@ add-result c = sum-fits in-64 (c .fits .h)
 cast-result-2 : tie.Need-cast-result-2
 cast-result-2 c = sum-cast in-64 (c .fits .h) w32 (lit≤ tt)
 
-cast-result-3 : tie.Need-cast-result-3
-cast-result-3 c = search needs
-
 returns : tie.Need-returns
 returns c = sum-residue in-64 (c .fits .h) 256 8388608 (lit< tt) refl
 
 pub byte-of-spec : {M : Type 1} → statement M
-byte-of-spec = tie.close (tie.spec cast-result add-result cast-result-2 cast-result-3 returns)
+byte-of-spec = tie.close (tie.spec cast-result add-result cast-result-2 (λ c. search needs) returns)

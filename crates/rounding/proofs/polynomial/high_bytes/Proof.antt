@@ -9,7 +9,8 @@ use lib.IntN.{pos}
 use mir.Syntax.{w32}
 use mir.Val.{toZ, ofZ}
 use mir.Facts.{toZ-ofZ}
-use Rattle.whole.specs.Fill.{Mapping, mapping-none, mapping-more, mapping-length, mapping-all}
+use Rattle.whole.specs.Below.{below-at}
+use Rattle.whole.specs.Fill.{Wrote, wrote-none, wrote-more, wrote-map}
 use Rattle.whole.specs.Twos.{twos}
 use Rattle.rounding.specs.Parts.{high}
 use Rattle.rounding.specs.Tests.{fitsByte}
@@ -19,7 +20,7 @@ use Rattle.rounding.proofs.polynomial.high_bytes.Tie as tie
 
 abbrev Inv-loop : tie.InvT-loop
 Inv-loop w q d out₀ fits₀ k₀ out fits k =
-    Mapping (λ x. twos 8 (high q d (pos x))) w out₀ out k × Tested (λ x. fitsByte (high q d (pos x))) w fits k
+    Wrote (λ j. twos 8 (high q d (pos (getD w j 0)))) out₀ k out × Tested (λ x. fitsByte (high q d (pos x))) w fits k
 
 abbrev μ-loop : tie.MeasureT-loop
 μ-loop w q d out₀ fits₀ k₀ out fits k = length w - k
@@ -30,50 +31,19 @@ as-read : (c : tie.After-high-of Inv-loop μ-loop)
     toZ w32 (ofZ w32 (c .high-of .result)) ≡ high (a .q) (a .d) (pos (getD (a .w .now) (c .before .before .before .loop .k) 0))
 as-read c = toZ-ofZ (sfits-of (c .high-of .ok)) ∙ c .high-of .ensures
 
-loop-holds : tie.Need-loop-holds Inv-loop μ-loop
-loop-holds c = (mapping-none _ _ _, tested-none)
-
-mul-high-of : tie.Need-mul-high-of Inv-loop μ-loop
-mul-high-of c = omega arith
-
-shared-slice-read-high-of : tie.Need-shared-slice-read-high-of Inv-loop μ-loop
-shared-slice-read-high-of c = omega arith
-
 high-of-requires : tie.Need-high-of-requires Inv-loop μ-loop
-high-of-requires c κs =
-    let s = c .before .before .before .before .before in
-    record { residue = s .pre .below .at (c .before .before .loop .k) (c .before .loop-test .taken); small = s .pre .small; step = s .pre .step; fits = s .pre .fits }
-
-byte-of-requires : tie.Need-byte-of-requires Inv-loop μ-loop
-byte-of-requires c κs = search needs
-
-slice-write-out : tie.Need-slice-write-out Inv-loop μ-loop
-slice-write-out c =
-    let l = c .before .before .before .before in
-    omega (arith, mapping-length (l .before .before .before .pre .exact) (l .loop .inv .0))
-
-fits-byte-requires : tie.Need-fits-byte-requires Inv-loop μ-loop
-fits-byte-requires c κs = search needs
-
-add-k : tie.Need-add-k Inv-loop μ-loop
-add-k c = omega arith
-
-loop-less : tie.Need-loop-less Inv-loop μ-loop
-loop-less c = omega arith
+high-of-requires c κs = search (below-at, needs)
 
 loop-again : tie.Need-loop-again Inv-loop μ-loop
 loop-again c =
-    let l = c .before .before .before .before .before in
-    let s = l .before .before .before in
-    let i = c .before .before .before .before .loop-test .taken in
-    (mapping-more (s .pre .exact) (l .loop .inv .0) 0 i (c .before .byte-of .ensures ∙ ap (twos 8) (as-read (c .before .before))), tested-more 0 (l .loop .inv .1) i (c .fits-byte .ensures ∙ ap fitsByte (as-read (c .before .before))))
-
-same-length : tie.Need-same-length Inv-loop μ-loop
-same-length c = mapping-length (c .before .before .before .before .pre .exact) (c .before .loop .inv .0)
+    let l = c .before .before .before .before .before .loop in
+    let h = as-read (c .before .before) in
+    (wrote-more (l .inv .0) (omega arith) (c .before .byte-of .ensures ∙ ap (twos 8) h), tested-more 0 (l .inv .1) (omega arith) (c .fits-byte .ensures ∙ ap fitsByte h))
 
 returns : tie.Need-returns Inv-loop μ-loop
 returns c =
-    (tested-all (c .before .loop .inv .1) (c .loop-test .left), mapping-all (c .before .before .before .before .pre .exact) (c .before .loop .inv .0) (c .loop-test .left))
+    let a = c .before .before .before .before .args in
+    (search (tested-all, needs), wrote-map (λ x. twos 8 (high (a .q) (a .d) (pos x))) (a .w .now) 0 (c .before .loop .inv .0) (search needs) (search needs))
 
 pub high-bytes-spec : {M : Type 1} → statement M
 high-bytes-spec =
@@ -81,15 +51,15 @@ high-bytes-spec =
     (tie.spec
     Inv-loop
     μ-loop
-    loop-holds
-    mul-high-of
-    shared-slice-read-high-of
+    (λ c. (wrote-none, tested-none))
+    (λ c. omega arith)
+    (λ c. omega arith)
     high-of-requires
-    byte-of-requires
-    slice-write-out
-    fits-byte-requires
-    add-k
-    loop-less
+    (λ c κs. search needs)
+    (λ c. omega arith)
+    (λ c κs. search needs)
+    (λ c. omega arith)
+    (λ c. omega arith)
     loop-again
-    same-length
+    (λ c. search needs)
     returns)

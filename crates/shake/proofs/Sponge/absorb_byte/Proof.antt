@@ -3,18 +3,15 @@
 use mathlib.Core.List.{[], _∷_}
 use borrow.Author.Needs.{needs}
 use native.Mathlib.Omega.{arith}
-use Rattle.shake.proofs.Steps.{absorbing-none, absorbing-byte, absorbing-all, absorbed-is}
+use Rattle.shake.proofs.Steps.{absorbable-near, absorbing-none, absorbing-byte, absorbing-all, absorbed-is}
 use Rattle.shake.proofs.Sponge.absorb_byte.Statement.{statement}
 use Rattle.shake.proofs.Sponge.absorb_byte.Tie as tie
 
-absorbable-requires : tie.Need-absorbable-requires
-absorbable-requires c κs = search needs
-
 xor-at-requires : tie.Need-xor-at-requires
-xor-at-requires c κs = absorbing-none _ (c .before .before .absorbable .ensures) [] .near
+xor-at-requires c κs = search (absorbable-near, needs)
 
 pass-requires : tie.Need-pass-requires
-pass-requires c κs = absorbing-none _ (c .before .before .before .before .absorbable .ensures) [] .near
+pass-requires c κs = search (absorbable-near, needs)
 
 returns : tie.Need-returns
 returns c =
@@ -27,4 +24,4 @@ returns c =
     (omega arith))
 
 pub absorb-byte-spec : {M : Type 1} → statement M
-absorb-byte-spec = tie.close (tie.spec absorbable-requires xor-at-requires pass-requires returns)
+absorb-byte-spec = tie.close (tie.spec (λ c κs. search needs) xor-at-requires pass-requires returns)

@@ -8,12 +8,6 @@ use Rattle.shake.proofs.Steps.{absorbable-squeezing, absorbable-out}
 use Rattle.shake.proofs.Sponge.absorbable.Statement.{statement}
 use Rattle.shake.proofs.Sponge.absorbable.Tie as tie
 
-blank-requires : tie.Need-blank-requires
-blank-requires c κs = search needs
-
-blank-requires-2 : tie.Need-blank-requires-2
-blank-requires-2 c κs = search needs
-
 returns : tie.Need-returns
 returns c = c .blank .ensures ∙ sym (absorbable-squeezing _ (search needs))
 
@@ -24,4 +18,4 @@ returns-3 : tie.Need-returns-3
 returns-3 c = c .blank2 .ensures ∙ sym (absorbable-out _ (omega arith))
 
 pub absorbable-spec : {M : Type 1} → statement M
-absorbable-spec = tie.close (tie.spec blank-requires blank-requires-2 returns returns-2 returns-3)
+absorbable-spec = tie.close (tie.spec (λ c κs. search needs) (λ c κs. search needs) returns returns-2 returns-3)

@@ -8,12 +8,6 @@ use Rattle.shake.proofs.Steps.{squeezable-out}
 use Rattle.shake.proofs.Sponge.squeezable.Statement.{statement}
 use Rattle.shake.proofs.Sponge.squeezable.Tie as tie
 
-ended-requires : tie.Need-ended-requires
-ended-requires c κs = search needs
-
-blank-requires : tie.Need-blank-requires
-blank-requires c κs = search needs
-
 ended-requires-2 : tie.Need-ended-requires-2
 ended-requires-2 c κs = rw (c .blank .ensures) (sound-blank .within)
 
@@ -28,4 +22,4 @@ returns-3 c = c .ended2 .ensures ∙ rw (c .before .blank .ensures) (sym (squeez
 
 pub squeezable-spec : {M : Type 1} → statement M
 squeezable-spec =
-    tie.close (tie.spec ended-requires blank-requires ended-requires-2 returns returns-2 returns-3)
+    tie.close (tie.spec (λ c κs. search needs) (λ c κs. search needs) ended-requires-2 returns returns-2 returns-3)

@@ -6,14 +6,11 @@ use Rattle.shake.proofs.Steps.{squeezing-one, squeezable-near, squeezed
 use Rattle.shake.proofs.Sponge.squeeze_byte.Statement.{statement}
 use Rattle.shake.proofs.Sponge.squeeze_byte.Tie as tie
 
-squeezable-requires : tie.Need-squeezable-requires
-squeezable-requires c κs = search needs
-
 byte-at-requires : tie.Need-byte-at-requires
-byte-at-requires c κs = squeezable-near _ (c .before .before .squeezable .ensures)
+byte-at-requires c κs = search (squeezable-near, needs)
 
 pass-requires : tie.Need-pass-requires
-pass-requires c κs = squeezable-near _ (c .before .before .before .before .squeezable .ensures)
+pass-requires c κs = search (squeezable-near, needs)
 
 returns : tie.Need-returns
 returns c =
@@ -22,4 +19,4 @@ returns c =
     (squeezed-is _ start 1 (one .0), after-is _ start 1 (one .1))
 
 pub squeeze-byte-spec : {M : Type 1} → statement M
-squeeze-byte-spec = tie.close (tie.spec squeezable-requires byte-at-requires pass-requires returns)
+squeeze-byte-spec = tie.close (tie.spec (λ c κs. search needs) byte-at-requires pass-requires returns)
