@@ -3,10 +3,10 @@
 --     is-new, is-old                the same, read the other way
 --     same-number, same-output      the tests determine the number, and what the output holds
 -- Assumes nothing.
-use mathlib.Core.Path.{_≡_, sym, ap, _∙_}
+use mathlib.Core.Path.{_≡_, sym, _∙_}
 use mathlib.Core.List.{List}
 use Prim.Native.Nat.{ℕ, suc}
-use Rattle.answers.specs.Tests.{Test, answer, after, Answered, Output}
+use Rattle.answers.specs.Tests.{Test, Answered, Output}
 use Rattle.answers.specs.TestLaws.{after-done, after-refused}
 
 pub same-number : {ts : List Test} {m n : ℕ} → Answered ts m → Answered ts n → m ≡ n

@@ -96,7 +96,7 @@ module _ (range need later : ℕ) (cs : List ℕ) where
 
 -- ---- a loop over the candidates of a stretch
 
--- what is stored of values: the values themselves, or a function of each
+-- what is stored of values: the values themselves, or each less b
 pub record Kept {A : Type 0} (g : List ℕ → List A) : Type 0 where
   pub none : g [] ≡ []
   pub append : (xs ys : List ℕ) → g (xs ++ ys) ≡ g xs ++ g ys
@@ -105,11 +105,8 @@ pub record Kept {A : Type 0} (g : List ℕ → List A) : Type 0 where
 pub kept-values : Kept (λ (vs : List ℕ). vs)
 kept-values = record { none = refl; append = λ xs ys. refl; long = λ xs. refl }
 
-pub kept-map : {A : Type 0} (f : ℕ → A) → Kept (map f)
-kept-map f = record { none = refl; append = λ xs ys. map-append f xs ys; long = λ xs. length-map xs f }
-
 pub kept-less : (b : ℕ) → Kept (map (lessOf b))
-kept-less b = kept-map (lessOf b)
+kept-less b = record { none = refl; append = λ xs ys. map-append (lessOf b) xs ys; long = λ xs. length-map xs (lessOf b) }
 
 -- a candidate of so many bits, where they count to 2(2b + 1) at most
 pub candidate-once : {c : ℕ} (b p bits : ℕ) → c ≡ p % 2 ^ bits → 2 ^ bits ≤ 2 * (2 * b + 1) → c < 2 * (2 * b + 1)

@@ -1,7 +1,7 @@
 -- `sampling::drawn::draw_positions` meets its contract. The loop's invariant: what stands in the outputs and what the candidates to come
 -- give are together all the positions with signs. The measure is the number of candidates to come.
 -- Assumes nothing.
-use mathlib.Core.Path.{refl, sym}
+use mathlib.Core.Path.{sym}
 use Prim.Native.Nat.{_*_}
 use native.Mathlib.Omega.{arith}
 use lib.ListN.{length}
