@@ -1,16 +1,16 @@
 -- The steps of drawing from a sponge, a stretch at a time.
---     buffer-..           a buffer whose first bytes are squeezed
---     values-squeezed     the values of the candidates to come are those of the next k, then those of the others
+--     filled              a buffer whose first bytes are squeezed
 --     squeezing-..        a loop over stretches: what stands in the output and what is still to come are together all
 --     gathering-..        the same for positions with signs
+--     ..-asks             what the reader of a stretch is asked
 -- Assumes nothing.
 use mathlib.Core.Path.{_≡_, refl, sym, ap, _∙_}
-use mathlib.Core.List.{List, [], _∷_, _++_, map, append-nil, append-assoc}
+use mathlib.Core.List.{List, [], _++_, map, append-nil, append-assoc}
 use Prim.Native.Nat.{ℕ, _+_, _-_, _*_, _/_, _%_, _^_, _≤_, _<_, zero-le}
 use native.Mathlib.Nat.{mul-add, mul-mod-right, mul-div-right, sub-zero}
 use native.Mathlib.Omega.{arith}
 use lib.IntN.{ℤ}
-use lib.ListN.{length, getD, take, drop, length-drop, length-append, length-map}
+use lib.ListN.{length, take, drop, length-drop, length-append, length-map}
 use lib.Seq.{take-at, length-take-le}
 use Rattle.shake.specs.declared.Sponge.{Sponge}
 use Rattle.shake.specs.Sponge.{squeezed, afterSqueeze}
@@ -57,7 +57,7 @@ filled-many size k h f = ap (λ (n : ℕ). n / size) (sym (f .cut)) ∙ mul-div-
 
 -- ---- the candidates that a sponge gives
 
-pub squeezed-many : (size bits m : ℕ) (s : Sponge) → 0 < size → length (candidates size bits (squeezed (size * m) s)) ≡ m
+squeezed-many : (size bits m : ℕ) (s : Sponge) → 0 < size → length (candidates size bits (squeezed (size * m) s)) ≡ m
 squeezed-many size bits m s h =
     candidates-length size bits (squeezed (size * m) s) ∙ ap (λ (n : ℕ). n / size) (length-squeezed (size * m) s) ∙ mul-div-right m h
 
@@ -71,7 +71,8 @@ squeezed-candidates size bits k left s h =
     whole : length (squeezed (size * k) s) % size ≡ 0
     whole = rw (length-squeezed (size * k) s) (mul-mod-right size k)
 
-pub values-squeezed : (range need size bits k left : ℕ) (s : Sponge) → 0 < size
+-- the values of the candidates to come are those of the next k, then those of the others
+values-squeezed : (range need size bits k left : ℕ) (s : Sponge) → 0 < size
     → let new = part range need left (candidates size bits (squeezed (size * k) s)) in
     values range need (candidates size bits (squeezed (size * (k + left)) s))
     ≡ new ++ values range (need - length new) (candidates size bits (squeezed (size * left) (afterSqueeze (size * k) s)))
@@ -192,16 +193,16 @@ module _ {A : Type 0} {g : List ℕ → List A} {size bits range : ℕ} where
         none : need ≡ 0
         none = omega (arith, d .still, d .within)
 
--- what the stretch's reader is asked
-module _ {all : List ℤ} {b bits most total left need at k : ℕ} {old out : List ℤ} {sponge after : Sponge} {buffer bytes : List ℕ} where
-  pub less-asks : Less bits b → Squeezing (map (lessOf b)) 3 bits (2 * b + 1) all old most total out sponge buffer left need at → Filled (3 * k) buffer bytes sponge after
-      → k ≤ left → most < 2 ^ 64 → LessStretch bits b (left - k) (take (3 * k) (bytes ++ drop (3 * k) buffer)) (length out) at
-  less-asks less d f h l =
-      record {
-        less = less;
-        fits = omega (arith, filled-many 3 k (omega arith) f, d .few);
-        within = omega (arith, d .within, d .long);
-      }
+-- what the reader of the next k candidates is asked
+pub less-asks : {all : List ℤ} {b bits most total left need at k : ℕ} {old out : List ℤ} {sponge after : Sponge} {buffer bytes : List ℕ} → Less bits b
+    → Squeezing (map (lessOf b)) 3 bits (2 * b + 1) all old most total out sponge buffer left need at → Filled (3 * k) buffer bytes sponge after
+    → k ≤ left → most < 2 ^ 64 → LessStretch bits b (left - k) (take (3 * k) (bytes ++ drop (3 * k) buffer)) (length out) at
+less-asks {k = k} less d f h l =
+    record {
+      less = less;
+      fits = omega (arith, filled-many 3 k (omega arith) f, d .few);
+      within = omega (arith, d .within, d .long);
+    }
 
 pub values-asks : {all : List ℕ} {bits range most total left need at k : ℕ} {old out : List ℕ} {sponge after : Sponge} {buffer bytes : List ℕ} → bits ≤ 32
     → Squeezing (λ (vs : List ℕ). vs) 4 bits range all old most total out sponge buffer left need at → Filled (4 * k) buffer bytes sponge after
@@ -280,7 +281,7 @@ module _ {n bits : ℕ} where
   module _ {all : List Drawn} {places : List ℕ} {signs : List ℤ} {out : List ℕ} {marks : List ℤ} {sponge : Sponge} {buffer : List ℕ} {left at : ℕ}
       (d : Gathering n bits all places signs out marks sponge buffer left at) where
     module _ (k : ℕ) {bytes : List ℕ} {after : Sponge} (f : Filled (3 * k) buffer bytes sponge after) (h : k ≤ left) where
-      -- what the stretch's reader is asked
+      -- what their reader is asked
       pub positions-asks : Placing n bits (length places) (length signs)
           → PositionsStretch n bits (left - k) (take (3 * k) (bytes ++ drop (3 * k) buffer)) (length out) (length marks) at
       positions-asks p =

@@ -16,13 +16,13 @@ use Rattle.sets.specs.declared.Numbers.{Numbers}
 use Rattle.sampling.specs.Candidates.{held, candidates}
 use Rattle.sampling.specs.CandidatesLaws.{candidates-length}
 use Rattle.sampling.specs.Values.{values}
-use Rattle.sampling.specs.Positions.{Drawn, positions, positionsOf, signsOf, drawnCandidates}
+use Rattle.sampling.specs.Positions.{Drawn, positions, drawnCandidates}
 use Rattle.sampling.specs.ValuesLaws.{part, lessOf, values-part, values-length}
 use Rattle.sampling.specs.PositionsLaws.{partPositions, positions-part, positions-length, drawn-length}
 use Rattle.sampling.specs.Stored.{Stored, StoredDrawn, stored-whole}
 use Rattle.sampling.specs.Lent.{lentA, lentY, testsEnc, lentEnc}
 use Rattle.sampling.specs.Promises.{TakesA, TakesY, TakesPositions}
-use Rattle.sampling.proofs.ValueSteps.{Kept, kept-values, kept-map}
+use Rattle.sampling.proofs.ValueSteps.{Kept, kept-values, kept-less}
 
 -- ---- values: one test
 
@@ -68,7 +68,7 @@ module _ {set : Numbers} {stream : List ℕ} where
   takes-y-done {old} h s =
       record {
         answered = enough h;
-        values = made (enough h) (all-values (kept-map (lessOf (set .b))) (2 * set .b + 1) 3 (set .«z_bits») (length old - 0) stream h (sub-zero (length old)) s);
+        values = made (enough h) (all-values (kept-less (set .b)) (2 * set .b + 1) 3 (set .«z_bits») (length old - 0) stream h (sub-zero (length old)) s);
       }
 
 -- ---- positions: three tests

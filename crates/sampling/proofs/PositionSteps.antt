@@ -3,14 +3,14 @@
 -- Assumes nothing.
 use mathlib.Core.Path.{_≡_, refl, sym, ap, ap₂, _∙_}
 use mathlib.Core.Logic.{⊎-elim}
-use mathlib.Core.Bool.{true, false}
+use mathlib.Core.Bool.{Bool, true, false}
 use mathlib.Core.List.{List, [], _∷_, _++_, append-nil}
 use Prim.Native.Nat.{ℕ, zero, suc, _+_, _-_, _*_, _/_, _%_, _^_, _≤_, _<_}
 use native.Mathlib.Nat.{zero-add, le-of-eq, mod-self, mod-lt, mod-eq-of-lt}
 use native.Mathlib.Numerals.{add-one}
 use native.Mathlib.Omega.{arith}
 use lib.IntN.{ℤ, pos, negsuc}
-use lib.ListN.{length, getD, take, drop, take-append-drop, length-drop, length-map, drop-of-length-le}
+use lib.ListN.{length, getD, take, drop, set, take-append-drop, length-drop, length-map, drop-of-length-le}
 use lib.Seq.{take-suc, take-all, drop-cons}
 use lib.Pow.{pow-pos, pow-mono}
 use borrow.Author.Tests.{eq-eqb, ne-eqb}
@@ -22,8 +22,8 @@ use Rattle.packing.specs.Laws.{value-drop}
 use Rattle.sampling.specs.Candidates.{held, piece}
 use Rattle.sampling.specs.Positions.{Drawn, isIn, free, signOf, positionsOf, drawnCandidates}
 use Rattle.sampling.specs.Promises.{Upward}
-use Rattle.sampling.specs.FreeLaws.{free-inside}
-use Rattle.sampling.specs.Stored.{StoredDrawn, stored-length, stored-front, stored-drawn-none, stored-drawn-append}
+use Rattle.sampling.specs.FreeLaws.{free-inside, free-here}
+use Rattle.sampling.specs.Stored.{StoredDrawn, stored-length, stored-front, stored-drawn-none, stored-drawn-one, stored-drawn-append}
 use Rattle.sampling.specs.PositionsLaws.{drawnAs, partPositions, placed, part-positions-none, part-positions-fresh, part-positions-repeated, part-positions-moved, part-positions-most, part-positions-append, drawn-length, drawn-at}
 use Rattle.sampling.proofs.CandidateSteps.{held-room}
 
@@ -47,43 +47,71 @@ third stretch j h b = omega (arith, value-drop 8 0 bytes, value-drop 8 1 bytes, 
     nothing = rw (drop-of-length-le bytes (le-of-eq (part-length (3 * j) 3 stretch room)))
 
 module _ (stretch : List ℕ) (j : ℕ) (h : j < held 3 stretch) (b : Below 256 stretch) where
-  pub sign-set : getD stretch (3 * j + 2) 0 % 2 ≡ 1 → signOf (piece 3 stretch j / 65536) ≡ negsuc 0
+  pub sign-set : getD stretch (3 * j + 2) 0 % 2 ≡ 1 → negsuc 0 ≡ signOf (piece 3 stretch j / 65536)
   sign-set e = rw (third stretch j h b, eq-eqb (getD stretch (3 * j + 2) 0 % 2) 1 e)
 
-  pub sign-clear : (getD stretch (3 * j + 2) 0 % 2 ≡ 1 → ⊥) → signOf (piece 3 stretch j / 65536) ≡ pos 1
+  pub sign-clear : (getD stretch (3 * j + 2) 0 % 2 ≡ 1 → ⊥) → pos 1 ≡ signOf (piece 3 stretch j / 65536)
   sign-clear e = rw (third stretch j h b, ne-eqb (getD stretch (3 * j + 2) 0 % 2) 1 e)
 
 -- ---- a search from the front
 
-module _ (p : ℕ) (ps : List ℕ) (i : ℕ) where
-  pub in-found : i < length ps → getD ps i 0 ≡ p → isIn p (drop i ps) ≡ true
-  unfolding isIn
-  in-found h e = rw (drop-cons ps i 0 h, e, eq-eqb p p refl)
+-- p is among ps exactly if it is among those from i on
+pub record Looking (p : ℕ) (ps : List ℕ) (i : ℕ) : Type 0 where
+  pub same : isIn p (drop i ps) ≡ isIn p ps
 
-  pub in-passed : i < length ps → (getD ps i 0 ≡ p → ⊥) → isIn p (drop i ps) ≡ isIn p (drop (i + 1) ps)
+module _ {p : ℕ} {ps : List ℕ} {i : ℕ} (l : Looking p ps i) where
+  pub in-found : i < length ps → getD ps i 0 ≡ p → true ≡ isIn p ps
   unfolding isIn
-  in-passed h e = rw (add-one i, drop-cons ps i 0 h, ne-eqb p (getD ps i 0) (λ q. e (sym q)))
+  in-found h e = sym (rw (drop-cons ps i 0 h, e, eq-eqb p p refl)) ∙ l .same
 
-  pub in-none : length ps ≤ i → isIn p (drop i ps) ≡ false
+  pub in-passed : i < length ps → (getD ps i 0 ≡ p → ⊥) → Looking p ps (i + 1)
   unfolding isIn
-  in-none h = rw (drop-of-length-le ps h)
+  in-passed h e =
+      record { same = sym (rw (add-one i, drop-cons ps i 0 h, ne-eqb p (getD ps i 0) (λ q. e (sym q)))) ∙ l .same }
+
+  pub in-none : length ps ≤ i → false ≡ isIn p ps
+  unfolding isIn
+  in-none h = sym (rw (drop-of-length-le ps h)) ∙ l .same
 
 -- ---- the next free position
 
-pub up : {n p r : ℕ} → p < n → Upward n p r → r ≡ (p + 1) % n
+-- the next free position from `at` on, with the steps left, is the one from p on
+pub record Freeing (n p : ℕ) (ps : List ℕ) (at steps : ℕ) : Type 0 where
+  pub inside : at < n
+  pub same : free n steps at ps ≡ free n n p ps
+
+pub freeing-none : {n p : ℕ} {ps : List ℕ} → p < n → Freeing n p ps p n
+freeing-none h = record { inside = h; same = refl }
+
+up : {n p r : ℕ} → p < n → Upward n p r → r ≡ (p + 1) % n
 up {n} {p} {r} h u = ⊎-elim (λ l. u .one l ∙ sym (mod-eq-of-lt l)) (λ l. u .around (top l) ∙ sym (rw (top l) (mod-self n))) (lt-or-le (p + 1) n)
   where
     top : n ≤ p + 1 → p + 1 ≡ n
     top l = omega arith
 
-pub free-on : (n steps p : ℕ) (ps : List ℕ) → 0 < steps → isIn p ps ≡ true → free n steps p ps ≡ free n (steps - 1) ((p + 1) % n) ps
+free-on : (n steps p : ℕ) (ps : List ℕ) → 0 < steps → isIn p ps ≡ true → free n steps p ps ≡ free n (steps - 1) ((p + 1) % n) ps
 unfolding free
 free-on n zero p ps h e = absurd (omega arith)
 free-on n (suc steps) p ps h e = rw (e, less-one steps)
 
-pub free-none : (n p : ℕ) (ps : List ℕ) → free n 0 p ps ≡ p
+free-none : (n steps p : ℕ) (ps : List ℕ) → steps ≤ 0 → free n steps p ps ≡ p
 unfolding free
-free-none n p ps = refl
+free-none n zero p ps h = refl
+free-none n (suc steps) p ps h = absurd (omega arith)
+
+module _ {n p : ℕ} {ps : List ℕ} {at steps : ℕ} (f : Freeing n p ps at steps) where
+  pub freeing-on : {taken : Bool} {r : ℕ} → taken ≡ isIn at ps → taken ≡ true → 0 < steps → Upward n at r → Freeing n p ps r (steps - 1)
+  freeing-on e t h u =
+      record {
+        inside = rw (up (f .inside) u) (mod-lt (at + 1) (omega (arith, f .inside)));
+        same = rw (up (f .inside) u) (sym (free-on n steps at ps h (sym e ∙ t)) ∙ f .same);
+      }
+
+  pub freeing-here : {taken : Bool} → taken ≡ isIn at ps → taken ≡ false → at ≡ free n n p ps
+  freeing-here e t = sym (free-here n steps at ps (sym e ∙ t)) ∙ f .same
+
+  pub freeing-out : steps ≤ 0 → at ≡ free n n p ps
+  freeing-out h = sym (free-none n steps at ps h) ∙ f .same
 
 -- it fits two bytes
 pub free-fits : {r : ℕ} (n p : ℕ) (ps : List ℕ) → r ≡ free n n p ps → p < n → n ≤ 65536 → r < 2 ^ 16
@@ -91,22 +119,39 @@ free-fits n p ps e h l = omega (arith, free-inside n n p ps h)
 
 -- ---- one candidate, with `left` after it
 
-pub one-fresh : (n need left : ℕ) (ps : List ℕ) (c : Drawn) → 0 < need → isIn (c .position) ps ≡ false → partPositions n need left ps (c ∷ []) ≡ c ∷ []
+one-fresh : (n need left : ℕ) (ps : List ℕ) (c : Drawn) → 0 < need → isIn (c .position) ps ≡ false → partPositions n need left ps (c ∷ []) ≡ c ∷ []
 unfolding partPositions
 one-fresh n zero left ps c h e = absurd (omega arith)
 one-fresh n (suc need) left ps c h e = part-positions-fresh n need left ps c [] e
 
-pub one-moved : (n need left : ℕ) (ps : List ℕ) (c : Drawn) → 0 < need → isIn (c .position) ps ≡ true → left < need
+one-moved : (n need left : ℕ) (ps : List ℕ) (c : Drawn) → 0 < need → isIn (c .position) ps ≡ true → left < need
     → partPositions n need left ps (c ∷ []) ≡ placed n ps c ∷ []
 unfolding partPositions
 one-moved n zero left ps c h e l = absurd (omega arith)
 one-moved n (suc need) left ps c h e l = part-positions-moved n need left ps c [] e (rw (zero-add left) l)
 
-pub one-repeated : (n need left : ℕ) (ps : List ℕ) (c : Drawn) → 0 < need → isIn (c .position) ps ≡ true → need ≤ left
+one-repeated : (n need left : ℕ) (ps : List ℕ) (c : Drawn) → 0 < need → isIn (c .position) ps ≡ true → need ≤ left
     → partPositions n need left ps (c ∷ []) ≡ []
 unfolding partPositions
 one-repeated n zero left ps c h e l = absurd (omega arith)
 one-repeated n (suc need) left ps c h e l = part-positions-repeated n need left ps c [] e (rw (zero-add left) l)
+
+-- and what is stored of it: `taken` says whether its position is among those before `at`
+module _ (n need left p : ℕ) (s : ℤ) {positions : List ℕ} {signs : List ℤ} {at next : ℕ} {taken : Bool} (e : taken ≡ isIn p (take at positions)) (some : 0 < need) where
+  pub position-fresh : {q : ℕ} {t : ℤ} → taken ≡ false → q ≡ p → t ≡ s → next ≡ at + 1
+      → StoredDrawn (partPositions n need left (take at positions) (drawnAs p s ∷ [])) positions signs at (set positions at q) (set signs at t) next
+  position-fresh b f g h =
+      rw (one-fresh n need left (take at positions) (drawnAs p s) some (sym e ∙ b)) (stored-drawn-one (drawnAs p s) f g h)
+
+  pub position-moved : {q : ℕ} {t : ℤ} → taken ≡ true → left < need → q ≡ free n n p (take at positions) → t ≡ s → next ≡ at + 1
+      → StoredDrawn (partPositions n need left (take at positions) (drawnAs p s ∷ [])) positions signs at (set positions at q) (set signs at t) next
+  position-moved b l f g h =
+      rw (one-moved n need left (take at positions) (drawnAs p s) some (sym e ∙ b) l) (stored-drawn-one (placed n (take at positions) (drawnAs p s)) f g h)
+
+  pub position-passed : taken ≡ true → need ≤ left → next ≡ at
+      → StoredDrawn (partPositions n need left (take at positions) (drawnAs p s ∷ [])) positions signs at positions signs next
+  position-passed b l h =
+      rw (one-repeated n need left (take at positions) (drawnAs p s) some (sym e ∙ b) l) (stored-drawn-none positions signs h)
 
 -- ---- a stretch
 

@@ -25,51 +25,50 @@ use Rattle.sampling.specs.SpongeLaws.{stream-squeezed, two-pieces, three
 use Rattle.sampling.specs.Asks.{Less}
 use Rattle.sampling.specs.Promises.{ClosesMessage}
 
+-- ---- G of a message
+
+pub message-closed : {set : Numbers} {state : Sponge} {out : List ℕ} {n : ℕ} → Good set → out ≡ squeezed n state → n ≡ digestBytes → ClosesMessage set state out
+unfolding messageDigest
+message-closed {set} {state} {out} good e long =
+    record {
+      bytes = bytes;
+      is = λ message below f. bytes ∙ ap (squeezed digestBytes) f ∙ stream-squeezed (set .digit) 4 message digestBytes (good .digit-fits) (omega arith) below;
+    }
+  where
+    bytes : out ≡ squeezed digestBytes state
+    bytes = rw long at e
+
+pub message-digested : {set : Numbers} {s₀ s₁ : Sponge} {message out : List ℕ} → ClosesMessage set s₁ out → s₀ ≡ fresh (set .digit) 4
+    → s₁ ≡ absorbed s₀ message → Below 256 message → out ≡ messageDigest set message
+message-digested {message = message} closed e f below = closed .is message below (rw e at f)
+
+-- ---- g and rand
+
+module _ {set : Numbers} (good : Good set) {s₀ s₁ : Sponge} where
+  pub key-digested : {packed out : List ℕ} {n : ℕ} → s₀ ≡ fresh (set .digit) 5 → s₁ ≡ absorbed s₀ packed → out ≡ squeezed n s₁ → n ≡ digestBytes
+      → Below 256 packed → out ≡ keyDigest set packed
+  unfolding keyDigest
+  key-digested {packed} e f out long below =
+      out ∙ rw (long, f, e) (stream-squeezed (set .digit) 5 packed digestBytes (good .digit-fits) (omega arith) below)
+
+  pub rand-made : {s₂ s₃ : Sponge} {a b c out : List ℕ} {n : ℕ} → s₀ ≡ fresh (set .digit) 3 → s₁ ≡ absorbed s₀ a → s₂ ≡ absorbed s₁ b → s₃ ≡ absorbed s₂ c
+      → out ≡ squeezed n s₃ → n ≡ seedBytes → Below 256 a → Below 256 b → Below 256 c → out ≡ randOf set a b c
+  unfolding randOf
+  rand-made {a = a} {b = b} {c = c} e f g h out long x y z =
+      out ∙ rw (long, h, g, f, e) (three-squeezed (set .digit) 3 a b c seedBytes (good .digit-fits) (omega arith) x y z)
+
 -- ---- y
 
-module _ (digit counter : ℕ) (rand : List ℕ) {s₀ s₁ s₂ : Sponge} where
-  pub y-started : s₀ ≡ fresh digit 2 → s₁ ≡ absorbed s₀ rand → s₂ ≡ absorbed s₁ ((counter % 256) ∷ (counter / 256) ∷ []) → counter < 2 ^ 16
-      → s₂ ≡ absorbed (fresh digit 2) (rand ++ twoBytes counter)
-  y-started e first second small =
-      two-pieces (fresh digit 2) rand ((counter % 256) ∷ (counter / 256) ∷ []) (rw e at first) second
-      ∙ ap (λ (b : ℕ). absorbed (fresh digit 2) (rand ++ ((counter % 256) ∷ b ∷ []))) high
-    where
-      high : counter / 256 ≡ counter / 256 % 256
-      high = omega arith
+pub y-started : (digit counter : ℕ) (rand : List ℕ) {s₀ s₁ s₂ : Sponge} → s₀ ≡ fresh digit 2 → s₁ ≡ absorbed s₀ rand
+    → s₂ ≡ absorbed s₁ ((counter % 256) ∷ (counter / 256) ∷ []) → counter < 2 ^ 16 → s₂ ≡ absorbed (fresh digit 2) (rand ++ twoBytes counter)
+y-started digit counter rand e first second small =
+    two-pieces (fresh digit 2) rand ((counter % 256) ∷ (counter / 256) ∷ []) (rw e at first) second
+    ∙ ap (λ (b : ℕ). absorbed (fresh digit 2) (rand ++ ((counter % 256) ∷ b ∷ []))) high
+  where
+    high : counter / 256 ≡ counter / 256 % 256
+    high = omega arith
 
 module _ {set : Numbers} (good : Good set) where
-  -- ---- G of a message
-
-  pub message-closed : {state : Sponge} {out : List ℕ} {n : ℕ} → out ≡ squeezed n state → n ≡ digestBytes → ClosesMessage set state out
-  unfolding messageDigest
-  message-closed {state} {out} e long =
-      record {
-        bytes = bytes;
-        is = λ message below f. bytes ∙ ap (squeezed digestBytes) f ∙ stream-squeezed (set .digit) 4 message digestBytes (good .digit-fits) (omega arith) below;
-      }
-    where
-      bytes : out ≡ squeezed digestBytes state
-      bytes = rw long at e
-
-  module _ {s₀ s₁ : Sponge} where
-    pub key-digested : {packed out : List ℕ} {n : ℕ} → s₀ ≡ fresh (set .digit) 5 → s₁ ≡ absorbed s₀ packed → out ≡ squeezed n s₁ → n ≡ digestBytes
-        → Below 256 packed → out ≡ keyDigest set packed
-    unfolding keyDigest
-    key-digested {packed} e f out long below =
-        out ∙ rw (long, f, e) (stream-squeezed (set .digit) 5 packed digestBytes (good .digit-fits) (omega arith) below)
-
-    pub enc-drawn : {c ps : List ℕ} {ss : List ℤ} (places : ℕ) → s₀ ≡ fresh (set .digit) 7 → s₁ ≡ absorbed s₀ c → places ≡ set .h → Below 256 c
-        → AreDrawn (placesOf (set .n) (set .«position_bits») places (squeezed (3 * 256) s₁)) ps ss → AreDrawn (encOf set c) ps ss
-    unfolding encOf
-    enc-drawn {c} places e f long below drawn =
-        rw (long, f, e, stream-squeezed (set .digit) 7 c (3 * 256) (good .digit-fits) (omega arith) below) at drawn
-
-    pub rand-made : {s₂ s₃ : Sponge} {a b c out : List ℕ} {n : ℕ} → s₀ ≡ fresh (set .digit) 3 → s₁ ≡ absorbed s₀ a → s₂ ≡ absorbed s₁ b → s₃ ≡ absorbed s₂ c
-        → out ≡ squeezed n s₃ → n ≡ seedBytes → Below 256 a → Below 256 b → Below 256 c → out ≡ randOf set a b c
-    unfolding randOf
-    rand-made {a = a} {b = b} {c = c} e f g h out long x y z =
-        out ∙ rw (long, h, g, f, e) (three-squeezed (set .digit) 3 a b c seedBytes (good .digit-fits) (omega arith) x y z)
-
   -- a value for y less b
   pub y-less : Less (set .«z_bits») (set .b)
   y-less = record { narrow = omega (arith, good .y-bytes); small = omega (arith, y-small good); once = good .y-once }
@@ -84,6 +83,10 @@ module _ {set : Numbers} (good : Good set) where
       bytes : Below 256 (rand ++ twoBytes counter)
       bytes = below-append 256 rand (twoBytes counter) below (two-below counter)
 
-pub message-digested : {set : Numbers} {s₀ s₁ : Sponge} {message out : List ℕ} → ClosesMessage set s₁ out → s₀ ≡ fresh (set .digit) 4
-    → s₁ ≡ absorbed s₀ message → Below 256 message → out ≡ messageDigest set message
-message-digested {message = message} closed e f below = closed .is message below (rw e at f)
+-- ---- c
+
+pub enc-drawn : {set : Numbers} {s₀ s₁ : Sponge} {c ps : List ℕ} {ss : List ℤ} (places : ℕ) → Good set → s₀ ≡ fresh (set .digit) 7 → s₁ ≡ absorbed s₀ c → places ≡ set .h
+    → Below 256 c → AreDrawn (placesOf (set .n) (set .«position_bits») places (squeezed (3 * 256) s₁)) ps ss → AreDrawn (encOf set c) ps ss
+unfolding encOf
+enc-drawn {set} {c = c} places good e f long below drawn =
+    rw (long, f, e, stream-squeezed (set .digit) 7 c (3 * 256) (good .digit-fits) (omega arith) below) at drawn

@@ -6,12 +6,13 @@ use Prim.Native.Nat.{ℕ, zero, suc, _+_, _-_, _*_, _%_, _^_, _≤_, _<_}
 use native.Mathlib.Nat.{zero-add, mod-lt}
 use native.Mathlib.Numerals.{add-one}
 use native.Mathlib.Omega.{arith}
-use lib.ListN.{length, getD, take, drop, take-append-drop, length-take, length-drop, length-map}
+use lib.IntN.{ℤ}
+use lib.ListN.{length, getD, take, drop, set, take-append-drop, length-take, length-drop, length-map}
 use lib.Seq.{take-suc, take-all}
 use lib.Pow.{pow-pos}
 use Rattle.sampling.specs.Candidates.{held, piece, candidates}
 use Rattle.sampling.specs.CandidatesLaws.{candidates-length, candidates-at}
-use Rattle.sampling.specs.Stored.{Stored, stored-none, stored-append, stored-length}
+use Rattle.sampling.specs.Stored.{Stored, stored-none, stored-one, stored-append, stored-length}
 use Rattle.sampling.specs.ValuesLaws.{part, lessOf, part-none, part-most, part-short, part-in, part-skip, part-last, part-append}
 
 -- ---- one candidate, with `left` after it
@@ -30,6 +31,15 @@ pub one-skip : (range need left c : ℕ) → 0 < need → range ≤ c → need �
 unfolding part
 one-skip range zero left c h l m = absurd (omega arith)
 one-skip range (suc need) left c h l m = part-skip range need left c [] l (rw (zero-add left) m)
+
+-- and what is stored of it, less b
+module _ (b need left c : ℕ) {old : List ℤ} {at next : ℕ} {v : ℤ} (some : 0 < need) where
+  pub less-in : c < 2 * b + 1 → v ≡ lessOf b c → next ≡ at + 1 → Stored (map (lessOf b) (part (2 * b + 1) need left (c ∷ []))) old at (set old at v) next
+  less-in h e f = rw (one-in (2 * b + 1) need left c some h) (stored-one e f)
+
+  pub less-last : 2 * b + 1 ≤ c → left < need → v ≡ lessOf b (c - (2 * b + 1)) → next ≡ at + 1
+      → Stored (map (lessOf b) (part (2 * b + 1) need left (c ∷ []))) old at (set old at v) next
+  less-last h l e f = rw (one-last (2 * b + 1) need left c some h l) (stored-one e f)
 
 -- ---- a stretch
 
@@ -86,7 +96,7 @@ module _ (range need later : ℕ) (cs : List ℕ) where
 
 -- ---- a loop over the candidates of a stretch
 
--- what is stored of values: the values themselves, or a function of each
+-- what is stored of values: the values themselves, or each less b
 pub record Kept {A : Type 0} (g : List ℕ → List A) : Type 0 where
   pub none : g [] ≡ []
   pub append : (xs ys : List ℕ) → g (xs ++ ys) ≡ g xs ++ g ys
@@ -95,11 +105,8 @@ pub record Kept {A : Type 0} (g : List ℕ → List A) : Type 0 where
 pub kept-values : Kept (λ (vs : List ℕ). vs)
 kept-values = record { none = refl; append = λ xs ys. refl; long = λ xs. refl }
 
-pub kept-map : {A : Type 0} (f : ℕ → A) → Kept (map f)
-kept-map f = record { none = refl; append = λ xs ys. map-append f xs ys; long = λ xs. length-map xs f }
-
 pub kept-less : (b : ℕ) → Kept (map (lessOf b))
-kept-less b = kept-map (lessOf b)
+kept-less b = record { none = refl; append = λ xs ys. map-append (lessOf b) xs ys; long = λ xs. length-map xs (lessOf b) }
 
 -- a candidate of so many bits, where they count to 2(2b + 1) at most
 pub candidate-once : {c : ℕ} (b p bits : ℕ) → c ≡ p % 2 ^ bits → 2 ^ bits ≤ 2 * (2 * b + 1) → c < 2 * (2 * b + 1)

@@ -45,7 +45,7 @@ pub record ValuesStretch (bits later need : ℕ) (stretch : List ℕ) (places at
   pub fits : held 4 stretch + later < 2 ^ 64
   pub room : at + min need (held 4 stretch) ≤ places
 
--- a value less b: it fits 32 bits with its sign, and a candidate of so many bits less 2b + 1 is at most 2b
+-- a value of at most 32 bits, less b: it fits 32 bits with its sign, and a candidate of so many bits less 2b + 1 is at most 2b
 pub record Less (bits b : ℕ) : Type 0 where
   pub narrow : bits ≤ 32
   pub small : b < 2 ^ 31
@@ -63,6 +63,7 @@ pub record Placing (n bits places signs : ℕ) : Type 0 where
   pub fits : bits ≤ 16
   pub paired : signs ≡ places
 
+-- candidates of 3 bytes for positions, and a place within the outputs
 pub record PositionsStretch (n bits later : ℕ) (stretch : List ℕ) (places signs at : ℕ) : Type 0 where
   pub placing : Placing n bits places signs
   pub fits : held 3 stretch + later < 2 ^ 64

@@ -63,8 +63,8 @@ fn take_value(c: u32, range: u32, left: usize, need: usize, out: &mut [u32], nex
     next
 }
 
-// The values below range of a stretch that `later` candidates follow, where `need` values are needed of all of them: stored in out from
-// `at` on. Answers the next place.
+// The values below range of a stretch of candidates of 4 bytes, which `later` candidates follow, where `need` values are needed of all of
+// them: stored in out from `at` on. Answers the next place.
 fn values_stretch(
     stretch: &[u8],
     bits: u32,
@@ -120,7 +120,8 @@ fn take_less(c: u32, b: u32, left: usize, need: usize, out: &mut [i32], next: us
     next
 }
 
-// The values from 0 to 2b of a stretch that `later` candidates follow, each less b, stored in out from `at` on. Answers the next place.
+// The values from 0 to 2b of a stretch of candidates of 3 bytes, which `later` candidates follow, each less b, stored in out from `at` on.
+// Answers the next place.
 fn less_stretch(
     stretch: &[u8],
     bits: u32,

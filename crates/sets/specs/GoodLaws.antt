@@ -2,15 +2,19 @@
 --     q-some                   there are residues
 --     n-some, n-few            how many coefficients a polynomial has at least and at most
 --     z-narrow, y-small        z and y + s c fit a word
---     row-few, row-word, row-inside      how many k polynomials in a row have at most, so that every place among them fits a word
+--     row-few, row-word, row-inside, start-word, end-word, offset-word, row-ends
+--                                  how many k polynomials in a row have at most, so that every place among them fits a word
 -- Assumes nothing.
+use mathlib.Core.Path.{_≡_}
+use mathlib.Core.List.{List}
 use Prim.Native.Nat.{ℕ, _+_, _*_, _≤_, _<_, _^_}
 use native.Mathlib.Nat.{mul-le-mul}
 use native.Mathlib.Omega.{arith}
+use lib.ListN.{length}
 use lib.Pow.{pow-pos, pow-mono}
 use mir.Syntax.{w64}
 use mir.Val.{Fits}
-use Rattle.whole.specs.Rows.{row-fits}
+use Rattle.whole.specs.Rows.{row-fits, row-within}
 use Rattle.sets.specs.declared.Numbers.{Numbers}
 use Rattle.sets.specs.Good.{Good}
 
@@ -43,3 +47,17 @@ module _ {set : Numbers} (good : Good set) where
   -- polynomial i ends among them
   pub row-inside : {i : ℕ} → i < set .k → set .n * i + set .n ≤ 16711680
   row-inside {i} l = omega (arith, row-fits (set .n) (set .k) i l, row-few)
+
+  -- where polynomial i starts and ends among them fits a word, and so do its offsets in elements of 4 bytes
+  pub start-word : {i : ℕ} → i < set .k → Fits w64 (set .n * i)
+  start-word l = record { fits = omega (arith, row-inside l) }
+
+  pub end-word : {i : ℕ} → i < set .k → Fits w64 (set .n * i + set .n)
+  end-word l = record { fits = omega (arith, row-inside l) }
+
+  pub offset-word : {i : ℕ} → i < set .k → Fits w64 (set .n * i * 4)
+  offset-word l = record { fits = omega (arith, row-inside l) }
+
+  -- where it ends in a list of them
+  pub row-ends : {A : Type 0} {i : ℕ} (xs : List A) → length xs ≡ set .k * set .n → i < set .k → set .n * i + set .n ≤ length xs
+  row-ends {i = i} xs e l = row-within (set .n) (set .k) i xs e l

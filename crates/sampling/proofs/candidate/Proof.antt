@@ -26,7 +26,7 @@ mul-from c =
     omega (arith, held-room (a .size) (a .j) (a .stretch .now) (c .before .pre .inside))
 
 loop-holds : tie.Need-loop-holds Inv-loop μ-loop
-loop-holds c = reading-none (c .before .pre .inside)
+loop-holds c = search (reading-none, needs)
 
 mul-v : tie.Need-mul-v Inv-loop μ-loop
 mul-v c = omega (arith, small (c .before))

@@ -1,4 +1,4 @@
--- `less` meets its contract: v and b are taken as whole numbers of 64 bits, where nothing wraps, and v − b is from −b to b.
+-- `sampling::less` meets its contract: v and b are taken as whole numbers of 64 bits, where nothing wraps, and v − b is from −b to b.
 -- Assumes nothing.
 use mathlib.Core.Path.{_≡_, ap₂, _∙_}
 use Prim.Native.Nat.{_≤_, _<_, _^_}
@@ -24,12 +24,6 @@ read c =
 small : (c : tie.Start) → mag (pos (c .args .v) -ℤ pos (c .args .b)) ≤ c .args .b
 small c = omega (arith, mag-le (pos (c .args .v) -ℤ pos (c .args .b)), less-small (c .args .b) (c .args .v) (c .pre .0))
 
-cast-result : tie.Need-cast-result
-cast-result c = search needs
-
-cast-result-2 : tie.Need-cast-result-2
-cast-result-2 c = search needs
-
 sub-result : tie.Need-sub-result
 sub-result c = rw (read c) (sfits-of (omega (arith, small c)))
 
@@ -40,4 +34,4 @@ returns : tie.Need-returns
 returns c = toZ-ofZ (cast-result-3 c) ∙ toZ-ofZ (sub-result c) ∙ read c
 
 pub less-spec : {M : Type 1} → statement M
-less-spec = tie.close (tie.spec cast-result cast-result-2 sub-result cast-result-3 returns)
+less-spec = tie.close (tie.spec (λ c. search needs) (λ c. search needs) sub-result cast-result-3 returns)

@@ -19,7 +19,7 @@ abbrev μ-loop : tie.MeasureT-loop
 μ-loop stretch bits b later out₀ at held end next₀ j₀ out next j = held - j
 
 loop-holds : tie.Need-loop-holds Inv-loop μ-loop
-loop-holds c = taking-none (kept-less (c .before .args .b))
+loop-holds c = search (taking-none, kept-less, needs)
 
 returns : tie.Need-returns Inv-loop μ-loop
 returns c = taking-full (c .before .before .loop .inv) (omega arith)

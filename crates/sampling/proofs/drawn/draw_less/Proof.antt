@@ -26,35 +26,30 @@ Inv-loop bits b out₀ sponge₀ buffer₀ left₀ at₀ out sponge buffer left 
 abbrev μ-loop : tie.MeasureT-loop
 μ-loop bits b out₀ sponge₀ buffer₀ left₀ at₀ out sponge buffer left at = left
 
+abbrev loop-of : tie.After-squeeze Inv-loop μ-loop → tie.At-loop Inv-loop μ-loop
+loop-of c = c .before .before .before .before
+
 -- the buffer's first bytes are squeezed
-squeezed-at : (c : tie.After-squeeze Inv-loop μ-loop) → let l = c .before .before .before .before .loop in
+squeezed-at : (c : tie.After-squeeze Inv-loop μ-loop) → let l = loop-of c .loop in
     Filled (3 * c .before .before .stretch-of .result) (l .buffer) (c .squeeze .last .1 .0) (l .sponge) (c .squeeze .result)
 squeezed-at c = filled _ _ (omega arith) (c .squeeze .ensures .0) (c .squeeze .ensures .1)
 
 loop-holds : tie.Need-loop-holds Inv-loop μ-loop
 loop-holds c = squeezing-none (kept-less (c .args .b)) (omega arith) (omega arith) (omega arith) refl
 
-slice-aggregate-squeeze : tie.Need-slice-aggregate-squeeze Inv-loop μ-loop
-slice-aggregate-squeeze c = sym (length-take-le _ _ (omega arith))
-
 array-share-prefix-buffer : tie.Need-array-share-prefix-buffer Inv-loop μ-loop
 array-share-prefix-buffer c = omega (arith, squeezed-at (c .before) .long)
-
-slice-aggregate-less-stretch : tie.Need-slice-aggregate-less-stretch Inv-loop μ-loop
-slice-aggregate-less-stretch c = squeezed-at (c .before .before) .cut
 
 less-stretch-requires : tie.Need-less-stretch-requires Inv-loop μ-loop
 less-stretch-requires c κs =
     let squeezed = c .before .before .before in
-    let at-loop = squeezed .before .before .before .before in
-    less-asks (at-loop .before .pre) (at-loop .loop .inv) (squeezed-at squeezed) (omega arith) (omega arith)
+    less-asks (loop-of squeezed .before .pre) (loop-of squeezed .loop .inv) (squeezed-at squeezed) (omega arith) (omega arith)
 
 loop-again : tie.Need-loop-again Inv-loop μ-loop
 loop-again c =
     let squeezed = c .before .before .before .before .before in
-    let at-loop = squeezed .before .before .before .before in
-    let most = squeezing-most (at-loop .loop .inv) _ _ (squeezed-at squeezed) (omega arith) (omega arith) (c .before .less-stretch .ensures) in
-    squeezing-more (at-loop .loop .inv) _ _ (squeezed-at squeezed) (omega arith) (omega arith) (c .before .less-stretch .ensures) (omega arith) (omega arith)
+    let most = squeezing-most (loop-of squeezed .loop .inv) _ _ (squeezed-at squeezed) (omega arith) (omega arith) (c .before .less-stretch .ensures) in
+    squeezing-more (loop-of squeezed .loop .inv) _ _ (squeezed-at squeezed) (omega arith) (omega arith) (c .before .less-stretch .ensures) (omega arith) (omega arith)
 
 returns : tie.Need-returns Inv-loop μ-loop
 returns c = squeezing-all (c .before .loop .inv) (omega arith) refl
@@ -71,10 +66,10 @@ draw-less-spec =
     (λ c. omega arith)
     (λ c. omega arith)
     (λ c. omega arith)
-    slice-aggregate-squeeze
+    (λ c. sym (length-take-le _ _ (omega arith)))
     (λ c κs. tt)
     array-share-prefix-buffer
-    slice-aggregate-less-stretch
+    (λ c. squeezed-at (c .before .before) .cut)
     less-stretch-requires
     (λ c. omega arith)
     loop-again

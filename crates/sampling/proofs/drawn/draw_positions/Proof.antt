@@ -1,7 +1,7 @@
 -- `sampling::drawn::draw_positions` meets its contract. The loop's invariant: what stands in the outputs and what the candidates to come
 -- give are together all the positions with signs. The measure is the number of candidates to come.
 -- Assumes nothing.
-use mathlib.Core.Path.{refl, sym}
+use mathlib.Core.Path.{sym}
 use Prim.Native.Nat.{_*_}
 use native.Mathlib.Omega.{arith}
 use lib.ListN.{length}
@@ -20,34 +20,29 @@ Inv-loop n bits positions₀ signs₀ sponge₀ buffer₀ left₀ at₀ position
 abbrev μ-loop : tie.MeasureT-loop
 μ-loop n bits positions₀ signs₀ sponge₀ buffer₀ left₀ at₀ positions signs sponge buffer left at = left
 
+abbrev loop-of : tie.After-squeeze Inv-loop μ-loop → tie.At-loop Inv-loop μ-loop
+loop-of c = c .before .before .before .before
+
 -- the buffer's first bytes are squeezed
-squeezed-at : (c : tie.After-squeeze Inv-loop μ-loop) → let l = c .before .before .before .before .loop in
+squeezed-at : (c : tie.After-squeeze Inv-loop μ-loop) → let l = loop-of c .loop in
     Filled (3 * c .before .before .stretch-of .result) (l .buffer) (c .squeeze .last .1 .0) (l .sponge) (c .squeeze .result)
 squeezed-at c = filled _ _ (omega arith) (c .squeeze .ensures .0) (c .squeeze .ensures .1)
 
 loop-holds : tie.Need-loop-holds Inv-loop μ-loop
-loop-holds c = gathering-none (c .before .pre .few) refl
-
-slice-aggregate-squeeze : tie.Need-slice-aggregate-squeeze Inv-loop μ-loop
-slice-aggregate-squeeze c = sym (length-take-le _ _ (omega arith))
+loop-holds c = search (gathering-none, needs)
 
 array-share-prefix-buffer : tie.Need-array-share-prefix-buffer Inv-loop μ-loop
 array-share-prefix-buffer c = omega (arith, squeezed-at (c .before) .long)
 
-slice-aggregate-positions-stretch : tie.Need-slice-aggregate-positions-stretch Inv-loop μ-loop
-slice-aggregate-positions-stretch c = squeezed-at (c .before .before) .cut
-
 positions-stretch-requires : tie.Need-positions-stretch-requires Inv-loop μ-loop
 positions-stretch-requires c κs =
     let squeezed = c .before .before .before .before in
-    let at-loop = squeezed .before .before .before .before in
-    positions-asks (at-loop .loop .inv) _ (squeezed-at squeezed) (omega arith) (at-loop .before .before .pre .placing)
+    positions-asks (loop-of squeezed .loop .inv) _ (squeezed-at squeezed) (omega arith) (loop-of squeezed .before .before .pre .placing)
 
 loop-again : tie.Need-loop-again Inv-loop μ-loop
 loop-again c =
     let squeezed = c .before .before .before .before .before .before .before .before in
-    let at-loop = squeezed .before .before .before .before in
-    gathering-more (at-loop .loop .inv) _ (squeezed-at squeezed) (omega (arith, squeezed .before .before .stretch-of .ensures)) (c .before .before .before .positions-stretch .ensures)
+    gathering-more (loop-of squeezed .loop .inv) _ (squeezed-at squeezed) (omega (arith, squeezed .before .before .stretch-of .ensures)) (c .before .before .before .positions-stretch .ensures)
 
 returns : tie.Need-returns Inv-loop μ-loop
 returns c = gathering-all (c .before .loop .inv) (omega arith) (c .before .before .before .pre .placing .paired)
@@ -63,10 +58,10 @@ draw-positions-spec =
     (λ c. omega arith)
     (λ c. omega arith)
     (λ c. omega arith)
-    slice-aggregate-squeeze
+    (λ c. sym (length-take-le _ _ (omega arith)))
     (λ c κs. tt)
     array-share-prefix-buffer
-    slice-aggregate-positions-stretch
+    (λ c. squeezed-at (c .before .before) .cut)
     positions-stretch-requires
     (λ c. omega arith)
     loop-again
