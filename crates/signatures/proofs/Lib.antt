@@ -1,4 +1,3 @@
 pub mod Sizes
 pub mod Steps
-pub mod Entries
 pub mod Determined

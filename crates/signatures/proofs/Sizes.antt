@@ -8,7 +8,8 @@ use native.Mathlib.Nat.{zero-add}
 use native.Mathlib.Omega.{arith}
 use lib.IntN.{ℤ, pos, negsuc, natAbs, _-ℤ_}
 use lib.ListN.{length, getD, length-map, List·getD-map}
-use lib.Signed.{ltZ}
+use lib.Dec.{T}
+use lib.Signed.{ltZ, nonNeg}
 use borrow.Author.Tests.{ltb-true, le-leb, lt-leb}
 use mir.Syntax.{w32, w64}
 use mir.Val.{Fits, SFits, toZ, ofZ}
@@ -21,6 +22,7 @@ use Rattle.whole.specs.Words.{read-i64, one-shifted}
 use Rattle.rounding.specs.Tests.{zPasses}
 use Rattle.sets.specs.declared.Numbers.{Numbers}
 use Rattle.signatures.specs.Signature.{zInRange}
+use Rattle.signatures.specs.Asks.{SizesBits, RangesBits}
 
 -- ---- of an i32
 
@@ -29,42 +31,49 @@ module _ {z : ℤ} (f : SFits w32 z) where
   pub z-read : toZ w32 (ofZ w32 z) ≡ z
   z-read = toZ-ofZ f
 
-  pub size-fits : Fits w32 (natAbs z)
+  size-fits : Fits w32 (natAbs z)
   size-fits = fits-natAbs {w = w32} {w′ = w32} tt f
 
+  -- what is |z| fits a u32
+  pub as-u32 : {x : ℤ} → x ≡ pos (natAbs z) → T (nonNeg x) × Fits w32 (natAbs x)
+  as-u32 e = rw e (tt, size-fits)
+
   -- 0 − z of a negative z
-  pub size-below : {d : ℤ} → ltZ (toZ w32 (ofZ w32 z)) (pos 0) ≡ true → d ≡ pos 0 -ℤ toZ w64 (ofZ w64 (toZ w32 (ofZ w32 z))) → d ≡ pos (natAbs z)
-  size-below t e = e ∙ rw (read-i64 f) (go z (rw z-read at t))
-    where
-      go : (y : ℤ) → ltZ y (pos 0) ≡ true → pos 0 -ℤ y ≡ pos (natAbs y)
-      go (pos a) u = absurd (omega (arith, ltb-true a 0 u))
-      go (negsuc a) u = ap pos (zero-add (suc a))
+  module _ (t : ltZ (toZ w32 (ofZ w32 z)) (pos 0) ≡ true) where
+    turned : pos 0 -ℤ toZ w64 (ofZ w64 (toZ w32 (ofZ w32 z))) ≡ pos (natAbs z)
+    turned = rw (read-i64 f) (go z (rw z-read at t))
+      where
+        go : (y : ℤ) → ltZ y (pos 0) ≡ true → pos 0 -ℤ y ≡ pos (natAbs y)
+        go (pos a) u = absurd (omega (arith, ltb-true a 0 u))
+        go (negsuc a) u = ap pos (zero-add (suc a))
+
+    pub turned-fits : SFits w64 (pos 0 -ℤ toZ w64 (ofZ w64 (toZ w32 (ofZ w32 z))))
+    turned-fits = rw turned (record { sfits = omega (arith, size-fits) })
+
+    pub turned-read : toZ w64 (ofZ w64 (pos 0 -ℤ toZ w64 (ofZ w64 (toZ w32 (ofZ w32 z))))) ≡ pos (natAbs z)
+    turned-read = toZ-ofZ turned-fits ∙ turned
 
   -- any other is its own size
-  pub size-above : ltZ (toZ w32 (ofZ w32 z)) (pos 0) ≡ false → toZ w32 (ofZ w32 z) ≡ pos (natAbs z)
-  size-above t = z-read ∙ not-negative-is z (rw z-read at t)
-
--- |z| of a z that was read
-pub size-read : (z : ℤ) {n : ℕ} → SFits w32 z → n ≡ natAbs (toZ w32 (ofZ w32 z)) → n ≡ natAbs z
-size-read z f e = e ∙ ap natAbs (z-read f)
+  pub not-turned : ltZ (toZ w32 (ofZ w32 z)) (pos 0) ≡ false → toZ w32 (ofZ w32 z) ≡ pos (natAbs z)
+  not-turned t = z-read ∙ not-negative-is z (rw z-read at t)
 
 -- ---- of b bits
 
-module _ (b x : ℕ) (p : ((0 < b) × (b < 32)) × (x < 2 ^ b)) where
+module _ {b x : ℕ} (p : SizesBits b x) where
   pub bits-room : x ≤ (1 * 2 ^ b) % 2 ^ 32
-  bits-room = omega (arith, one-shifted 32 b (p .0 .1))
+  bits-room = omega (arith, one-shifted 32 b (p .narrow))
 
   -- bits without the sign
   pub bits-low : {n : ℕ} → x < (1 * 2 ^ (b - 1)) % 2 ^ 32 → n ≡ x → n ≡ natAbs (signed b x)
   bits-low t e = e ∙ sym (size-low b x (omega (arith, one-shifted 32 (b - 1) (omega arith))))
 
   -- bits with the sign: what they lack to 2^b
-  pub bits-high : {n : ℕ} → (1 * 2 ^ (b - 1)) % 2 ^ 32 ≤ x → n + x ≡ (1 * 2 ^ b) % 2 ^ 32 → n ≡ natAbs (signed b x)
+  pub bits-high : {n : ℕ} → (1 * 2 ^ (b - 1)) % 2 ^ 32 ≤ x → n ≡ (1 * 2 ^ b) % 2 ^ 32 - x → n ≡ natAbs (signed b x)
   bits-high {n} t e =
-      lacks ∙ sym (size-high b x (p .1) (omega (arith, one-shifted 32 (b - 1) (omega arith))))
+      lacks ∙ sym (size-high b x (p .below) (omega (arith, one-shifted 32 (b - 1) (omega arith))))
     where
       lacks : n ≡ 2 ^ b - x
-      lacks = omega (arith, one-shifted 32 b (p .0 .1))
+      lacks = omega (arith, one-shifted 32 b (p .narrow))
 
 -- ---- the loop over z
 
@@ -75,17 +84,27 @@ pub record Ranging (bound : ℕ) (z : List ℤ) (k : ℕ) : Type 0 where
 pub ranging-none : (bound : ℕ) (z : List ℤ) → Ranging bound z 0
 ranging-none bound z = record { passing = passing-none (zPasses bound) z }
 
-module _ {bound k : ℕ} {z : List ℤ} (p : Ranging bound z k) where
-  pub ranging-more : {size next : ℕ} (d : ℤ) → k < length z → size ≡ natAbs (getD z k d) → size ≤ bound → next ≡ k + 1 → Ranging bound z next
-  unfolding zPasses
-  ranging-more d l e h n = record { passing = passing-more (p .passing) d l (le-leb (natAbs (getD z k d)) bound (omega arith)) n }
+-- |z| as the code takes it
+passes-size : (z : ℤ) {bound size : ℕ} → size ≡ natAbs z → size ≤ bound → zPasses bound z ≡ true
+unfolding zPasses
+passes-size z {bound} e h = le-leb (natAbs z) bound (omega arith)
 
-  pub ranging-fails : {size : ℕ} (d : ℤ) → k < length z → size ≡ natAbs (getD z k d) → bound < size → false ≡ every (zPasses bound) z
-  unfolding zPasses
-  ranging-fails d l e h = passing-fails (p .passing) d l (lt-leb (natAbs (getD z k d)) bound (omega arith))
+fails-size : (z : ℤ) {bound size : ℕ} → size ≡ natAbs z → bound < size → zPasses bound z ≡ false
+unfolding zPasses
+fails-size z {bound} e h = lt-leb (natAbs z) bound (omega arith)
 
-  pub ranging-all : length z ≤ k → true ≡ every (zPasses bound) z
-  ranging-all h = passing-all (p .passing) h
+module _ {bound k : ℕ} {z : List ℤ} (p : Ranging bound z k) (l : k < length z) (f : SFits w32 (getD z k (pos 0))) {size : ℕ} (e : size ≡ natAbs (toZ w32 (ofZ w32 (getD z k (pos 0))))) where
+  is-size : size ≡ natAbs (getD z k (pos 0))
+  is-size = e ∙ ap natAbs (z-read f)
+
+  pub ranging-more : {next : ℕ} → size ≤ bound → next ≡ k + 1 → Ranging bound z next
+  ranging-more h n = record { passing = passing-more (p .passing) (pos 0) l (passes-size (getD z k (pos 0)) is-size h) n }
+
+  pub ranging-fails : bound < size → false ≡ every (zPasses bound) z
+  ranging-fails h = passing-fails (p .passing) (pos 0) l (fails-size (getD z k (pos 0)) is-size h)
+
+pub ranging-all : {bound k : ℕ} {z : List ℤ} → Ranging bound z k → length z ≤ k → true ≡ every (zPasses bound) z
+ranging-all p h = passing-all (p .passing) h
 
 -- with the set's bound
 pub range-is : (s : Numbers) (z : List ℤ) {bound : ℕ} {r : Bool} → bound ≡ s .b - s .s → r ≡ every (zPasses bound) z → r ≡ zInRange s z
@@ -96,23 +115,28 @@ range-is s z e f = f ∙ rw e
 
 -- what the first k stand for is from −bound to bound
 pub record RangingBits (b bound : ℕ) (x : List ℕ) (k : ℕ) : Type 0 where
-  pub ranging : Ranging bound (map (signed b) x) k
+  pub passing : Passing (zPasses bound) (map (signed b) x) k
 
 pub bits-none : (b bound : ℕ) (x : List ℕ) → RangingBits b bound x 0
-bits-none b bound x = record { ranging = ranging-none bound (map (signed b) x) }
+bits-none b bound x = record { passing = passing-none (zPasses bound) (map (signed b) x) }
 
 module _ {b bound k : ℕ} {x : List ℕ} (p : RangingBits b bound x k) where
-  inside : k < length x → k < length (map (signed b) x)
-  inside l = rw (length-map x (signed b)) l
+  -- what the next size asks
+  pub bits-next : RangesBits b x → k < length x → SizesBits b (getD x k 0)
+  bits-next q l = record { wide = q .wide; narrow = q .narrow; below = q .below .at k l }
 
-  size-is : {size : ℕ} → size ≡ natAbs (signed b (getD x k 0)) → size ≡ natAbs (getD (map (signed b) x) k (signed b 0))
-  size-is e = e ∙ ap natAbs (sym (List·getD-map (signed b) x k 0))
+  module _ (l : k < length x) {size : ℕ} (e : size ≡ natAbs (signed b (getD x k 0))) where
+    inside : k < length (map (signed b) x)
+    inside = rw (length-map x (signed b)) l
 
-  pub bits-more : {size next : ℕ} → k < length x → size ≡ natAbs (signed b (getD x k 0)) → size ≤ bound → next ≡ k + 1 → RangingBits b bound x next
-  bits-more l e h n = record { ranging = ranging-more (p .ranging) (signed b 0) (inside l) (size-is e) h n }
+    is-bits : size ≡ natAbs (getD (map (signed b) x) k (signed b 0))
+    is-bits = e ∙ ap natAbs (sym (List·getD-map (signed b) x k 0))
 
-  pub bits-fail : {size : ℕ} → k < length x → size ≡ natAbs (signed b (getD x k 0)) → bound < size → false ≡ every (zPasses bound) (map (signed b) x)
-  bits-fail l e h = ranging-fails (p .ranging) (signed b 0) (inside l) (size-is e) h
+    pub bits-more : {next : ℕ} → size ≤ bound → next ≡ k + 1 → RangingBits b bound x next
+    bits-more h n = record { passing = passing-more (p .passing) (signed b 0) inside (passes-size _ is-bits h) n }
+
+    pub bits-fail : bound < size → false ≡ every (zPasses bound) (map (signed b) x)
+    bits-fail h = passing-fails (p .passing) (signed b 0) inside (fails-size _ is-bits h)
 
   pub bits-all : length x ≤ k → true ≡ every (zPasses bound) (map (signed b) x)
-  bits-all h = ranging-all (p .ranging) (rw (length-map x (signed b)) h)
+  bits-all h = passing-all (p .passing) (rw (length-map x (signed b)) h)

@@ -1,7 +1,7 @@
 -- The steps of reading and writing a signature record: what each call asks, and what the record, z, c' and the bits of z are after it.
 -- Assumes nothing.
 use mathlib.Core.Path.{_≡_, refl, sym, ap, _∙_}
-use mathlib.Core.Bool.{Bool, true, false}
+use mathlib.Core.Bool.{Bool, true}
 use mathlib.Core.List.{List, _++_, map, append-assoc}
 use Prim.Native.Nat.{ℕ, _+_, _-_, _^_, _<_}
 use native.Mathlib.Omega.{arith}
@@ -9,43 +9,45 @@ use native.Mathlib.Nat.{add-sub-cancel-left}
 use lib.Dec.{eqb}
 use lib.IntN.{ℤ}
 use lib.ListN.{length, take, drop, length-append, length-drop, length-map}
-use borrow.Author.Tests.{eq-eqb, ne-eqb}
+use borrow.Author.Tests.{eqb-true}
 use Rattle.whole.specs.Below.{Below}
 use Rattle.whole.specs.Parts.{part-length}
 use Rattle.whole.specs.Written.{Written, written-front, written-more, written-all, written-length, lent-rest, put-rest}
 use Rattle.whole.specs.Every.{every}
-use Rattle.answers.specs.Tests.{answer, after}
-use Rattle.answers.specs.TestLaws.{answer-pass, answer-fail, answer-none, after-done, after-refused}
 use Rattle.whole.specs.Twos.{signed, twos, twos-all-below}
+use Rattle.answers.specs.Tests.{Answered}
+use Rattle.answers.specs.TestLaws.{AllPass, all-passed}
 use Rattle.rounding.specs.Tests.{zPasses}
 use Rattle.packing.specs.Digits.{bytesFor, packed, unpacked, Packs, Unpacks}
 use Rattle.packing.specs.Laws.{packed-length, unpacked-length, unpacked-below}
 use Rattle.packing.specs.Twos.{ToBits, FromBits}
 use Rattle.sets.specs.declared.Numbers.{Numbers}
-use Rattle.sets.specs.GoodLaws.{n-few, z-narrow}
 use Rattle.sets.specs.Good.{Good}
-use Rattle.records.specs.Layout.{mark, marked, stretch, zBytes, signatureBytes}
-use Rattle.signatures.specs.Signature.{signatureRecord, zOf, challengeOf, zInRange}
+use Rattle.sets.specs.GoodLaws.{n-few, z-narrow}
+use Rattle.sets.specs.SetI.{setI, good-i}
+use Rattle.records.specs.Layout.{mark, stretch, zBytes}
+use Rattle.signatures.specs.Signature.{signatureRecord, zBitsOf, zOf, challengeOf, zInRange, signatureTests, readSignatureTests, writeSignatureTests}
+use Rattle.signatures.specs.Asks.{RangesBits, LongSignature, ScansZ, UnpacksZ, TakesZ, TakesSignature, WritesPieces, PutsSignature, WritesChecked}
+use Rattle.signatures.specs.Promises.{WritesSignature, ReadsSignature}
 use Rattle.signatures.specs.Laws.{zInRange-inside}
-use Rattle.signatures.specs.Parts.{ReadsBits, Takes, WritesPieces, WritesChecked, zBitsOf, frontTests, signatureTests}
 
 -- ---- the bits of z
 
 pub z-wide : {s : Numbers} → Good s → 0 < s .«z_bits»
 z-wide good = omega (arith, good .z-byte)
 
-module _ {s : Numbers} {bits signature : List ℕ} {len : ℕ} (r : ReadsBits s signature bits) (e : len ≡ zBytes s) where
+module _ {s : Numbers} {bits signature : List ℕ} {len : ℕ} (r : ScansZ s signature bits) (e : len ≡ zBytes s) where
   pub bits-unpack : Unpacks (s .«z_bits») (take (2 + len - 2) (drop 2 signature)) bits
   bits-unpack =
       record {
-        wide = r .room .good .z-byte;
-        narrow = omega (arith, z-narrow (r .room .good));
-        exact = rw (add-sub-cancel-left 2 len) (part-length 2 len signature (omega (arith, r .signature-long))) ∙ e ∙ ap (bytesFor (s .«z_bits»)) (sym (r .room .scratch-long));
+        wide = r .good .z-byte;
+        narrow = omega (arith, z-narrow (r .good));
+        exact = rw (add-sub-cancel-left 2 len) (part-length 2 len signature (omega (arith, r .signature-long))) ∙ e ∙ ap (bytesFor (s .«z_bits»)) (sym (r .scratch-long));
       }
 
   pub bits-are : {new : List ℕ} → new ≡ unpacked (s .«z_bits») (length bits) (take (2 + len - 2) (drop 2 signature)) → new ≡ zBitsOf s signature
   unfolding zBitsOf
-  bits-are g = g ∙ rw (add-sub-cancel-left 2 len, e, r .room .scratch-long)
+  bits-are g = g ∙ rw (add-sub-cancel-left 2 len, e, r .scratch-long)
 
 module _ (s : Numbers) (signature : List ℕ) {bits : List ℕ} (e : bits ≡ zBitsOf s signature) where
   pub bits-below : Below (2 ^ s .«z_bits») bits
@@ -55,6 +57,10 @@ module _ (s : Numbers) (signature : List ℕ) {bits : List ℕ} (e : bits ≡ zB
   pub bits-long : length bits ≡ s .n
   unfolding zBitsOf
   bits-long = rw e (unpacked-length (s .«z_bits») (s .n) _)
+
+  -- what testing them asks
+  pub scan-asked : Good s → RangesBits (s .«z_bits») bits
+  scan-asked good = record { wide = z-wide good; narrow = z-narrow good; below = bits-below }
 
   -- z of its bits
   pub bits-asked : {z : List ℤ} → Good s → length z ≡ s .n → FromBits (s .«z_bits») bits z
@@ -73,49 +79,6 @@ module _ (s : Numbers) (signature : List ℕ) {bits : List ℕ} (e : bits ≡ zB
   pub range-of-bits : {bound : ℕ} {r : Bool} → r ≡ every (zPasses bound) (map (signed (s .«z_bits»)) bits) → bound ≡ s .b - s .s → r ≡ zInRange s (zOf s signature)
   unfolding zInRange zOf zBitsOf
   range-of-bits g f = g ∙ rw (f, e)
-
--- ---- the tests
-
--- what testing a record answers, and what it leaves of the bits of z
-abbrev pub Tested : Numbers → List ℕ → List ℕ → ℕ → List ℕ → Type 0
-Tested s signature old number bits =
-    (number ≡ answer (signatureTests s signature)) × (bits ≡ after (answer (frontTests s signature)) (zBitsOf s signature) old)
-
-module _ (s : Numbers) (signature old : List ℕ) {len : ℕ} (l : len ≡ signatureBytes s) where
-  pub tested-length : {number : ℕ} → number ≡ 1 → (length signature ≡ len → ⊥) → Tested s signature old number old
-  unfolding signatureTests frontTests
-  tested-length e h =
-      (e ∙ sym (answer-fail 1 _ wrong), sym (after-refused 0 (zBitsOf s signature) old (answer-fail 1 _ wrong)))
-    where
-      wrong : eqb (length signature) (signatureBytes s) ≡ false
-      wrong = ne-eqb _ _ (λ f. h (f ∙ sym l))
-
-  module _ (long : length signature ≡ len) {m : Bool} (f : m ≡ marked s 3 signature) where
-    right : eqb (length signature) (signatureBytes s) ≡ true
-    right = eq-eqb _ _ (long ∙ l)
-
-    pub tested-mark : {number : ℕ} → number ≡ 2 → m ≡ false → Tested s signature old number old
-    unfolding signatureTests frontTests
-    tested-mark e h = (
-      e ∙ sym (answer-pass 1 _ right ∙ answer-fail 2 _ wrong),
-      sym (after-refused 1 (zBitsOf s signature) old (answer-pass 1 _ right ∙ answer-fail 2 _ wrong)),
-    )
-      where
-        wrong : marked s 3 signature ≡ false
-        wrong = sym f ∙ h
-
-    module _ (h : m ≡ true) {bits : List ℕ} {r : Bool} (g : r ≡ zInRange s (zOf s signature)) (b : bits ≡ zBitsOf s signature) where
-      kept : bits ≡ after (answer (frontTests s signature)) (zBitsOf s signature) old
-      unfolding frontTests
-      kept = b ∙ sym (after-done (zBitsOf s signature) old (answer-pass 1 _ right ∙ answer-pass 2 _ (sym f ∙ h) ∙ answer-none))
-
-      pub tested-z : {number : ℕ} → number ≡ 9 → r ≡ false → Tested s signature old number bits
-      unfolding signatureTests
-      tested-z e w = (e ∙ sym (answer-pass 1 _ right ∙ answer-pass 2 _ (sym f ∙ h) ∙ answer-fail 9 _ (sym g ∙ w)), kept)
-
-      pub tested-done : {number : ℕ} → number ≡ 0 → r ≡ true → Tested s signature old number bits
-      unfolding signatureTests
-      tested-done e w = (e ∙ sym (answer-pass 1 _ right ∙ answer-pass 2 _ (sym f ∙ h) ∙ answer-pass 9 _ (sym g ∙ w) ∙ answer-none), kept)
 
 -- ---- writing
 
@@ -161,17 +124,17 @@ module _ {s : Numbers} {z : List ℤ} {c′ signature scratch : List ℕ} (p : W
   pub z-asked : ToBits (s .«z_bits») z scratch
   z-asked =
       record {
-        wide = z-wide (p .room .good);
-        narrow = z-narrow (p .room .good);
-        inside = zInRange-inside s z (p .room .good) (p .z-inside);
-        exact = p .room .scratch-long ∙ sym (p .z-long);
+        wide = z-wide (p .good);
+        narrow = z-narrow (p .good);
+        inside = zInRange-inside s z (p .good) (p .z-inside);
+        exact = p .scratch-long ∙ sym (p .z-long);
       }
 
   module _ {bits : List ℕ} (e : bits ≡ map (twos (s .«z_bits»)) z) where
     pub pieces-asked : WritesPieces s bits c′ signature
     pieces-asked =
         record {
-          good = p .room .good;
+          good = p .good;
           bits-long = rw e (length-map z (twos (s .«z_bits»)) ∙ p .z-long);
           bits-below = rw e (twos-all-below (s .«z_bits») z);
           c-long = p .c-long;
@@ -182,9 +145,69 @@ module _ {s : Numbers} {z : List ℤ} {c′ signature scratch : List ℕ} (p : W
     unfolding signatureRecord
     record-is f = f ∙ rw e
 
+-- values and a record that pass the tests
+pub write-puts : {s : Numbers} {z : List ℤ} {c′ signature : List ℕ} {number : ℕ} {done : Bool}
+    → Answered (writeSignatureTests s z c′ (length signature)) number → done ≡ eqb number 0 → done ≡ true → PutsSignature s z c′ signature
+unfolding writeSignatureTests AllPass every
+write-puts a e h =
+    let p = all-passed refl a e h in
+    record {
+      z-long = eqb-true _ _ (p .0);
+      z-inside = p .1 .1 .1 .0;
+      c-long = eqb-true _ _ (p .1 .0);
+      signature-long = eqb-true _ _ (p .1 .1 .0);
+    }
+
 -- ---- taking the values
 
-module _ {s : Numbers} {signature c′ bits : List ℕ} {z : List ℤ} (p : Takes s signature z c′ bits) where
-  pub c-are : {len : ℕ} {new : List ℕ} → len ≡ zBytes s → new ≡ stretch (2 + len) (length c′) signature → new ≡ challengeOf s signature
-  unfolding challengeOf
-  c-are e f = f ∙ rw (p .c-long, e)
+-- a record that is read has its length, and so have the outputs
+pub read-takes : {s : Numbers} {signature : List ℕ} {z : List ℤ} {c′ : List ℕ} {number : ℕ} {done : Bool}
+    → Answered (readSignatureTests s signature (length z) (length c′)) number → done ≡ eqb number 0 → done ≡ true → TakesSignature s signature z c′
+unfolding readSignatureTests signatureTests AllPass every
+read-takes a e h =
+    let p = all-passed refl a e h in
+    record {
+      signature-long = eqb-true _ _ (p .1 .1 .0);
+      z-long = eqb-true _ _ (p .0);
+      c-long = eqb-true _ _ (p .1 .0);
+    }
+
+pub take-c : {s : Numbers} {signature c′ new : List ℕ} {z : List ℤ} {len : ℕ} → TakesSignature s signature z c′
+    → len ≡ zBytes s → new ≡ stretch (2 + len) (length c′) signature → new ≡ challengeOf s signature
+unfolding challengeOf
+take-c p e f = f ∙ rw (p .c-long, e)
+
+-- ---- set I
+
+module _ {s : Numbers} (e : s ≡ setI) where
+  pub scans-i : {signature scratch : List ℕ} → LongSignature s signature → length scratch ≡ 1024 → ScansZ s signature scratch
+  scans-i p l = record { good = good-i e; signature-long = p .long; scratch-long = rw e l }
+
+  pub unpacks-i : {signature scratch : List ℕ} {z : List ℤ} → TakesZ s signature z → length scratch ≡ 1024 → UnpacksZ s signature z scratch
+  unpacks-i p l =
+      record {
+        good = good-i e;
+        signature-long = p .signature-long;
+        z-long = p .z-long;
+        scratch-long = rw e l;
+      }
+
+  pub writes-i : {z : List ℤ} {c′ signature scratch : List ℕ} → PutsSignature s z c′ signature → length scratch ≡ 1024
+      → WritesChecked s z c′ signature scratch
+  writes-i p l =
+      record {
+        good = good-i e;
+        z-long = p .z-long;
+        z-inside = p .z-inside;
+        c-long = p .c-long;
+        signature-long = p .signature-long;
+        scratch-long = rw e l;
+      }
+
+  -- the promises of the entries
+  pub writes-signature-i : {z : List ℤ} {c′ old new : List ℕ} {number : ℕ} → WritesSignature s z c′ old new number → WritesSignature setI z c′ old new number
+  writes-signature-i w = rw e at w
+
+  pub reads-signature-i : {signature c′ cNew : List ℕ} {z zNew : List ℤ} {number : ℕ}
+      → ReadsSignature s signature z zNew c′ cNew number → ReadsSignature setI signature z zNew c′ cNew number
+  reads-signature-i w = rw e at w

@@ -15,20 +15,19 @@ use Rattle.whole.specs.Int.{abs-le-to}
 use Rattle.whole.specs.Below.{Below, below-part}
 use Rattle.whole.specs.Parts.{part-length, part-piece, part-last, part-second, parts-join}
 use Rattle.whole.specs.Twos.{InBits, signed, twos, twos-all-below}
+use Rattle.whole.specs.Every.{every}
+use Rattle.whole.specs.EveryLaws.{every-at}
 use Rattle.answers.specs.Tests.{answer}
-use Rattle.whole.specs.EveryLaws.{both, both-first, every-at}
-use Rattle.answers.specs.TestLaws.{answer-pass, answer-none, answer-first, answer-rest}
+use Rattle.answers.specs.TestLaws.{AllPass, all-pass, passes-all}
 use Rattle.rounding.specs.Tests.{zPasses}
 use Rattle.packing.specs.Digits.{bytesFor, packed, unpacked}
 use Rattle.packing.specs.Laws.{packed-length, unpacked-length, unpacked-below, unpacked-packed, packed-unpacked-whole}
 use Rattle.packing.specs.Twos.{AllInBits, signed-twos-all, twos-signed-all}
 use Rattle.sets.specs.declared.Numbers.{Numbers}
 use Rattle.sets.specs.Good.{Good}
-use Rattle.sets.specs.SetI.{setI, setI-good}
 use Rattle.records.specs.Layout.{mark, marked, stretch, zBytes, signatureBytes}
 use Rattle.sets.specs.Limits.{seedBytes}
-use Rattle.signatures.specs.Signature.{signatureRecord, zOf, challengeOf, zInRange, readSignatureTests}
-use Rattle.signatures.specs.Parts.{Room}
+use Rattle.signatures.specs.Signature.{signatureRecord, zOf, challengeOf, zInRange, signatureTests, readSignatureTests}
 use Rattle.records.specs.PublicLaws.{marked-mark, marked-front}
 
 -- ---- the range of z
@@ -102,12 +101,12 @@ module _ (s : Numbers) (z : List ℤ) (c′ : List ℕ) where
 
       -- reading it into outputs of the right lengths passes
       pub signature-reads : length c′ ≡ seedBytes → answer (readSignatureTests s (signatureRecord s z c′) (s .n) seedBytes) ≡ 0
-      unfolding readSignatureTests
+      unfolding readSignatureTests signatureTests AllPass
       signature-reads e =
-          answer-pass 1 _ (both (eq-eqb _ _ (signatureRecord-length s z c′ long e)) (both (eq-eqb (s .n) _ refl) refl))
-          ∙ answer-pass 2 _ signature-marked
-          ∙ answer-pass 9 _ (ap (zInRange s) signature-z ∙ inside)
-          ∙ answer-none
+          all-pass (readSignatureTests s (signatureRecord s z c′) (s .n) seedBytes) (
+            eq-eqb (s .n) _ refl,
+            (refl, (eq-eqb _ _ (signatureRecord-length s z c′ long e), (signature-marked, (ap (zInRange s) signature-z ∙ inside, tt)))),
+          )
 
 -- ---- what reads is what would be written
 
@@ -138,11 +137,7 @@ module _ (s : Numbers) (good : Good s) (signature : List ℕ) (bytes : Below 256
 -- a record that is read without refusal
 pub signature-read-again : (s : Numbers) (signature : List ℕ) (zLength cLength : ℕ) → Good s → Below 256 signature
     → answer (readSignatureTests s signature zLength cLength) ≡ 0 → signatureRecord s (zOf s signature) (challengeOf s signature) ≡ signature
-unfolding readSignatureTests
+unfolding readSignatureTests signatureTests AllPass every
 signature-read-again s signature zLength cLength good bytes e =
-    signature-again s good signature bytes (eqb-true _ _ (both-first _ _ (answer-first _ 0 _ e))) (answer-first _ 1 _ (answer-rest _ 0 _ e))
-
--- ---- set I
-
-pub room-i : {s : Numbers} {scratch : List ℕ} → s ≡ setI → length scratch ≡ setI .n → Room s scratch
-room-i e l = rw e (record { good = setI-good; scratch-long = l })
+    let p = passes-all (readSignatureTests s signature zLength cLength) refl e .1 .1 in
+    signature-again s good signature bytes (eqb-true _ _ (p .0)) (p .1 .0)

@@ -1,4 +1,4 @@
 pub mod Signature
-pub mod Answers
-pub mod Parts
+pub mod Asks
+pub mod Promises
 pub mod Laws

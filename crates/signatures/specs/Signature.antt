@@ -1,6 +1,6 @@
 -- The signature record: mark 3, z at its width in two's complement, c'.
 -- Assumes nothing: these are definitions.
-use mathlib.Core.Bool.{Bool, _&&_}
+use mathlib.Core.Bool.{Bool}
 use mathlib.Core.List.{List, [], _∷_, _++_, map}
 use Prim.Native.Nat.{ℕ, _+_, _-_}
 use lib.Dec.{eqb}
@@ -18,6 +18,10 @@ use Rattle.sets.specs.Limits.{seedBytes}
 unfoldable pub signatureRecord : Numbers → List ℤ → List ℕ → List ℕ
 signatureRecord s z c′ = mark s 3 ++ (packed (s .«z_bits») (map (twos (s .«z_bits»)) z) ++ c′)
 
+-- the bits of each z of a record
+unfoldable pub zBitsOf : Numbers → List ℕ → List ℕ
+zBitsOf s signature = unpacked (s .«z_bits») (s .n) (stretch 2 (zBytes s) signature)
+
 -- the values of a record
 unfoldable pub zOf : Numbers → List ℕ → List ℤ
 zOf s signature = map (signed (s .«z_bits»)) (unpacked (s .«z_bits») (s .n) (stretch 2 (zBytes s) signature))
@@ -31,15 +35,24 @@ zInRange s z = every (zPasses (s .b - s .s)) z
 
 -- ---- the tests
 
-unfoldable pub readSignatureTests : Numbers → List ℕ → ℕ → ℕ → List Test
-readSignatureTests s signature zLength cLength =
-    ((eqb (length signature) (signatureBytes s) && (eqb zLength (s .n) && eqb cLength seedBytes)) orElse 1)
+-- a record by itself
+unfoldable pub signatureTests : Numbers → List ℕ → List Test
+signatureTests s signature =
+    (eqb (length signature) (signatureBytes s) orElse 1)
     ∷ (marked s 3 signature orElse 2)
     ∷ (zInRange s (zOf s signature) orElse 9)
     ∷ []
 
+-- reading a record into z and c', with the lengths of the two outputs
+unfoldable pub readSignatureTests : Numbers → List ℕ → ℕ → ℕ → List Test
+readSignatureTests s signature zLength cLength =
+    (eqb zLength (s .n) orElse 1) ∷ (eqb cLength seedBytes orElse 1) ∷ signatureTests s signature
+
+-- writing a record from z and c', with the output's length
 unfoldable pub writeSignatureTests : Numbers → List ℤ → List ℕ → ℕ → List Test
 writeSignatureTests s z c′ signatureLength =
-    ((eqb (length z) (s .n) && (eqb (length c′) seedBytes && eqb signatureLength (signatureBytes s))) orElse 1)
+    (eqb (length z) (s .n) orElse 1)
+    ∷ (eqb (length c′) seedBytes orElse 1)
+    ∷ (eqb signatureLength (signatureBytes s) orElse 1)
     ∷ (zInRange s z orElse 9)
     ∷ []
