@@ -1,36 +1,36 @@
--- The steps of reading and writing a public record: one t_i in its own stretch.
+-- The steps of reading and writing a public record: one t_i in its own stretch, then all of them, then the record.
 -- Assumes nothing.
-use mathlib.Core.Path.{_≡_, sym, ap, _∙_, refl, ap₂}
+use mathlib.Core.Path.{_≡_, refl, sym, ap, ap₂, _∙_}
 use mathlib.Core.Bool.{Bool, true, false, not}
 use mathlib.Core.List.{List, _++_, append-nil, append-assoc}
 use Prim.Native.Nat.{ℕ, _+_, _*_, _-_, _≤_, _<_, zero-le}
+use native.Mathlib.Nat.{le-antisymm, mul-comm, add-sub-cancel-left}
+use native.Mathlib.Numerals.{add-one}
 use native.Mathlib.Omega.{arith}
 use lib.Dec.{eqb, ltb}
 use lib.ListN.{length, getD, take, drop, length-drop, length-append}
+use lib.Seq.{length-take-le}
 use borrow.Author.Tests.{lt-ltb, le-ltb, eqb-true}
 use Rattle.whole.specs.Below.{below-more}
-use Rattle.whole.specs.Parts.{part-length}
+use Rattle.whole.specs.Every.{every, eachBelow}
 use Rattle.whole.specs.EveryLaws.{Passing, passing-more, passing-fails, passing-all, every-joined, eachBelow-none, eachBelow-more, eachBelow-fails, eachBelow-end}
-use Rattle.answers.specs.TestLaws.{AllPass, all-passed, holds, misses}
+use Rattle.whole.specs.Parts.{part-length}
+use Rattle.whole.specs.Rows.{row-fits}
+use Rattle.whole.specs.Table.{joined, joined-length}
 use Rattle.whole.specs.Written.{lent-rest, put-rest, Written, written-none, written-kept, written-length, written-more, written-all, put-part, written-front}
+use Rattle.answers.specs.Tests.{Answered}
+use Rattle.answers.specs.TestLaws.{AllPass, all-passed, holds, misses}
 use Rattle.packing.specs.Digits.{bytesFor, packed, unpacked, Packs, Unpacks}
 use Rattle.sets.specs.declared.Numbers.{Numbers}
-use Rattle.sets.specs.GoodLaws.{n-few, row-inside}
-use Rattle.records.specs.Layout.{tBytes, publicBytes, polynomial, mark}
-use Rattle.sets.specs.Limits.{seedBytes}
-use Rattle.records.specs.Asks.{ReadsT, PacksT, ScansT, LongPublic, ReadsAllT, PacksAllT, PutsPublic, TakesPublic}
-use Rattle.records.specs.Public.{tOf, allT, tInRange, packedT, publicRecord, seedAOf, publicTests, readPublicTests, writePublicTests}
-use Rattle.records.specs.SizeLaws.{stretch-fits}
-use native.Mathlib.Nat.{le-antisymm, mul-comm, add-sub-cancel-left}
-use Rattle.whole.specs.Every.{every, eachBelow}
-use Rattle.answers.specs.Tests.{Answered}
-use native.Mathlib.Numerals.{add-one}
-use lib.Seq.{length-take-le}
-use Rattle.whole.specs.Table.{joined, joined-length}
-use Rattle.whole.specs.Rows.{row-fits}
 use Rattle.sets.specs.Good.{Good}
-use Rattle.sets.specs.SetI.{setI, good-i}
+use Rattle.sets.specs.GoodLaws.{n-few}
 use Rattle.sets.specs.Known.{Known, known-good}
+use Rattle.sets.specs.Limits.{seedBytes}
+use Rattle.sets.specs.SetI.{setI, good-i}
+use Rattle.records.specs.Layout.{tBytes, publicBytes, polynomial, mark}
+use Rattle.records.specs.Public.{tOf, allT, tInRange, packedT, publicRecord, seedAOf, publicTests, readPublicTests, writePublicTests}
+use Rattle.records.specs.Asks.{ReadsT, PacksT, ScansT, LongPublic, ReadsAllT, PacksAllT, PutsPublic, TakesPublic}
+use Rattle.records.specs.SizeLaws.{stretch-fits}
 use Rattle.records.specs.PublicLaws.{tOf-length, polynomial-length, polynomial-below, packed-t-length, packedT-length, tInRange-below}
 
 -- ---- one t_i is read
@@ -147,9 +147,6 @@ module _ {s : Numbers} {public old t : List ℕ} {i : ℕ} (r : ReadsAllT s publ
 
   pub reading-fits : i < s .k → s .n * i + s .n ≤ length t
   reading-fits l = omega (arith, row-fits (s .n) (s .k) i l, reading-length, r .room)
-
-  pub reading-few : i < s .k → s .n * i + s .n ≤ 16711680
-  reading-few l = row-inside (r .good) l
 
   pub reading-reads : i < s .k → ReadsT s public i (take (s .n * i + s .n - s .n * i) (drop (s .n * i) t))
   reading-reads l =

@@ -84,8 +84,7 @@ module _ {set : Numbers} {secret s e seedA seedY g : List ℕ} (p : TakesSecret 
         g-long = p .lengths .g-long;
       }
 
--- the values, each from its own stretch
-module _ {set : Numbers} {secret s e seedA seedY g : List ℕ} (p : TakesSecret set secret s e seedA seedY g) where
+  -- the values, each from its own stretch
   pub take-s : {new : List ℕ} → new ≡ take (length s) (drop 2 secret) → new ≡ sOf set secret
   unfolding sOf
   take-s f = f ∙ rw (p .lengths .s-long)

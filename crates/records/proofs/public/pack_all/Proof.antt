@@ -2,6 +2,7 @@
 use native.Mathlib.Omega.{arith}
 use Prim.Native.Nat.{_-_}
 use borrow.Author.Needs.{needs}
+use Rattle.sets.specs.GoodLaws.{row-inside}
 use Rattle.records.proofs.PublicSteps.{WritingT, writing-none, writing-length, writing-fits, writing-packs, writing-more, writing-all}
 use Rattle.records.proofs.public.pack_all.Statement.{statement}
 use Rattle.records.proofs.public.pack_all.Tie as tie
@@ -19,12 +20,12 @@ pack-all-spec =
     Inv-loop
     μ-loop
     (λ c. search (writing-none, needs))
-    (λ c. omega (arith, writing-fits (c .before .before .before .before .pre) (c .before .loop .inv) (c .loop-test .taken)))
-    (λ c. omega (arith, writing-fits (c .before .before .before .before .pre) (c .before .loop .inv) (c .loop-test .taken)))
-    (λ c. omega (arith, writing-fits (c .before .before .before .before .pre) (c .before .loop .inv) (c .loop-test .taken)))
+    (λ c. omega (arith, row-inside (c .before .before .before .before .pre .good) (c .loop-test .taken)))
+    (λ c. omega (arith, row-inside (c .before .before .before .before .pre .good) (c .loop-test .taken)))
+    (λ c. omega (arith, row-inside (c .before .before .before .before .pre .good) (c .loop-test .taken)))
     (λ c. omega arith)
     (λ c. omega arith)
-    (λ c. omega (arith, writing-fits (c .before .before .before .before .pre) (c .before .loop .inv) (c .loop-test .taken)))
+    (λ c. search (writing-fits, needs))
     (λ c κs. search (writing-packs, needs))
     (λ c. omega arith)
     (λ c. omega arith)

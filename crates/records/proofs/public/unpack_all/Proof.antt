@@ -2,7 +2,8 @@
 use native.Mathlib.Omega.{arith}
 use Prim.Native.Nat.{_-_}
 use borrow.Author.Needs.{needs}
-use Rattle.records.proofs.PublicSteps.{ReadingT, reading-none, reading-length, reading-fits, reading-few, reading-reads, reading-more, reading-all}
+use Rattle.sets.specs.GoodLaws.{row-inside}
+use Rattle.records.proofs.PublicSteps.{ReadingT, reading-none, reading-length, reading-fits, reading-reads, reading-more, reading-all}
 use Rattle.records.proofs.public.unpack_all.Statement.{statement}
 use Rattle.records.proofs.public.unpack_all.Tie as tie
 
@@ -19,12 +20,12 @@ unpack-all-spec =
     Inv-loop
     μ-loop
     (λ c. reading-none _ _ _)
-    (λ c. omega (arith, reading-few (c .before .before .before .before .pre) (c .before .loop .inv) (c .loop-test .taken)))
-    (λ c. omega (arith, reading-few (c .before .before .before .before .pre) (c .before .loop .inv) (c .loop-test .taken)))
-    (λ c. omega (arith, reading-few (c .before .before .before .before .pre) (c .before .loop .inv) (c .loop-test .taken)))
+    (λ c. omega (arith, row-inside (c .before .before .before .before .pre .good) (c .loop-test .taken)))
+    (λ c. omega (arith, row-inside (c .before .before .before .before .pre .good) (c .loop-test .taken)))
+    (λ c. omega (arith, row-inside (c .before .before .before .before .pre .good) (c .loop-test .taken)))
     (λ c. omega arith)
     (λ c. omega arith)
-    (λ c. omega (arith, reading-fits (c .before .before .before .before .pre) (c .before .loop .inv) (c .loop-test .taken)))
+    (λ c. search (reading-fits, needs))
     (λ c κs. search (reading-reads, needs))
     (λ c. omega arith)
     (λ c. omega arith)

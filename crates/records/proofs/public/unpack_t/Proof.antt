@@ -14,7 +14,7 @@ unpack-t-spec =
     (λ c. omega (arith, read-fits (c .before .before .before .before .pre) (c .t-bytes .ensures) (c .before .t-start .ensures)))
     (λ c. search needs)
     (λ c. search needs)
-    (λ c. omega (arith, read-fits (c .before .before .before .before .pre) (c .t-bytes .ensures) (c .before .t-start .ensures)))
+    (λ c. search (read-fits, needs))
     (λ c κs. search (read-unpacks, needs))
     (λ c. search needs)
     (λ c. search (read-is, needs)))
