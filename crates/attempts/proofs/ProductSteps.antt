@@ -1,5 +1,5 @@
 -- v_1..v_k are made one after another, and then their high parts: the steps up to c'. Assumes nothing.
-use mathlib.Core.Path.{_≡_, sym, ap, _∙_}
+use mathlib.Core.Path.{_≡_, sym, ap, subst, _∙_}
 use mathlib.Core.List.{List, [], _++_}
 use Prim.Native.Nat.{ℕ, _+_, _*_, _-_, _≤_, _<_, zero-le}
 use native.Mathlib.Nat.{le-antisymm}
@@ -180,4 +180,5 @@ module _ {set : Numbers} {v : List ℕ} (a : Absorbs set v) {highs : Highs} {i :
 
   pub absorbing-all : set .k ≤ i → Held set (highsOf set (λ j. polynomial (set .n) j v)) highs
   unfolding highsOf
-  absorbing-all l = rw (le-antisymm l (h .near)) (h .held)
+  absorbing-all l =
+      subst (λ (m : ℕ). Held set (joined m (λ j. highParts set (polynomial (set .n) j v))) highs) (le-antisymm (h .near) l) (h .held)

@@ -2,3 +2,4 @@ pub mod PieceLaws
 pub mod PublicSteps
 pub mod SecretSteps
 pub mod SetISteps
+pub mod Determined

@@ -38,6 +38,9 @@ module _ {from old to : List ℕ} {i : ℕ} (p : Copies from old) (s : Copying f
   pub copying-length : length to ≡ length old
   copying-length = rw (s .done) (length-filled i from old (s .near) (le-trans (s .near) (p .room)))
 
+  pub copying-inside : i < length from → i < length to
+  copying-inside l = omega (arith, copying-length, p .room)
+
   pub copying-all : length from ≤ i → to ≡ from ++ drop (length from) old
   copying-all l =
       let e : i ≡ length from = le-antisymm (s .near) l in

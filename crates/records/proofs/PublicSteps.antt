@@ -1,36 +1,36 @@
--- The steps of reading and writing a public record: one t_i in its own stretch.
+-- The steps of reading and writing a public record: one t_i in its own stretch, then all of them, then the record.
 -- Assumes nothing.
-use mathlib.Core.Path.{_≡_, sym, ap, _∙_, refl, ap₂}
-use mathlib.Core.Bool.{true, false, Bool}
+use mathlib.Core.Path.{_≡_, refl, sym, ap, ap₂, _∙_}
+use mathlib.Core.Bool.{Bool, true, false, not}
 use mathlib.Core.List.{List, _++_, append-nil, append-assoc}
 use Prim.Native.Nat.{ℕ, _+_, _*_, _-_, _≤_, _<_, zero-le}
+use native.Mathlib.Nat.{le-antisymm, mul-comm, add-sub-cancel-left}
+use native.Mathlib.Numerals.{add-one}
 use native.Mathlib.Omega.{arith}
 use lib.Dec.{eqb, ltb}
 use lib.ListN.{length, getD, take, drop, length-drop, length-append}
+use lib.Seq.{length-take-le}
 use borrow.Author.Tests.{lt-ltb, le-ltb, eqb-true}
 use Rattle.whole.specs.Below.{below-more}
-use Rattle.whole.specs.Parts.{part-length}
+use Rattle.whole.specs.Every.{every, eachBelow}
 use Rattle.whole.specs.EveryLaws.{Passing, passing-more, passing-fails, passing-all, every-joined, eachBelow-none, eachBelow-more, eachBelow-fails, eachBelow-end}
-use Rattle.answers.specs.TestLaws.{AllPass, all-passed}
+use Rattle.whole.specs.Parts.{part-length}
+use Rattle.whole.specs.Rows.{row-fits}
+use Rattle.whole.specs.Table.{joined, joined-length}
 use Rattle.whole.specs.Written.{lent-rest, put-rest, Written, written-none, written-kept, written-length, written-more, written-all, put-part, written-front}
+use Rattle.answers.specs.Tests.{Answered}
+use Rattle.answers.specs.TestLaws.{AllPass, all-passed, holds, misses}
 use Rattle.packing.specs.Digits.{bytesFor, packed, unpacked, Packs, Unpacks}
 use Rattle.sets.specs.declared.Numbers.{Numbers}
-use Rattle.sets.specs.GoodLaws.{n-few, row-inside}
-use Rattle.records.specs.Layout.{tBytes, publicBytes, polynomial, mark}
-use Rattle.sets.specs.Limits.{seedBytes}
-use Rattle.records.specs.Asks.{ReadsT, PacksT, ScansT, LongPublic, ReadsAllT, PacksAllT, PutsPublic, TakesPublic}
-use Rattle.records.specs.Public.{tOf, allT, tInRange, packedT, publicRecord, seedAOf, publicTests, readPublicTests, writePublicTests}
-use Rattle.records.specs.SizeLaws.{stretch-fits}
-use native.Mathlib.Nat.{le-antisymm, mul-comm, add-sub-cancel-left}
-use Rattle.whole.specs.Every.{every, eachBelow}
-use Rattle.answers.specs.Tests.{Answered}
-use native.Mathlib.Numerals.{add-one}
-use lib.Seq.{length-take-le}
-use Rattle.whole.specs.Table.{joined, joined-length}
-use Rattle.whole.specs.Rows.{row-fits}
 use Rattle.sets.specs.Good.{Good}
-use Rattle.sets.specs.SetI.{setI, good-i}
+use Rattle.sets.specs.GoodLaws.{n-few}
 use Rattle.sets.specs.Known.{Known, known-good}
+use Rattle.sets.specs.Limits.{seedBytes}
+use Rattle.sets.specs.SetI.{setI, good-i}
+use Rattle.records.specs.Layout.{tBytes, publicBytes, polynomial, mark}
+use Rattle.records.specs.Public.{tOf, allT, tInRange, packedT, publicRecord, seedAOf, publicTests, readPublicTests, writePublicTests}
+use Rattle.records.specs.Asks.{ReadsT, PacksT, ScansT, LongPublic, ReadsAllT, PacksAllT, PutsPublic, TakesPublic}
+use Rattle.records.specs.SizeLaws.{stretch-fits}
 use Rattle.records.specs.PublicLaws.{tOf-length, polynomial-length, polynomial-below, packed-t-length, packedT-length, tInRange-below}
 
 -- ---- one t_i is read
@@ -93,45 +93,39 @@ module _ (s : Numbers) (t : List ℕ) {i : ℕ} (p : Testing (s .q) t i) where
 -- ---- the range of t_1..t_k
 
 -- t_1..t_i are in range
-pub record Ranging (s : Numbers) (public scratch : List ℕ) (i : ℕ) : Type 0 where
+pub record Ranging (s : Numbers) (public old scratch : List ℕ) (i : ℕ) : Type 0 where
   pub near : i ≤ s .k
-  pub room : length scratch ≡ s .n
+  pub long : length scratch ≡ length old
   pub passed : eachBelow i (λ j. tInRange s (tOf s public j)) ≡ true
 
-pub ranging-none : {s : Numbers} {public scratch : List ℕ} → ScansT s public scratch → Ranging s public scratch 0
-ranging-none {s} {public} p =
-    record {
-      near = zero-le;
-      room = p .room;
-      passed = eachBelow-none (λ j. tInRange s (tOf s public j));
-    }
+pub ranging-none : (s : Numbers) (public old : List ℕ) → Ranging s public old old 0
+ranging-none s public old = record { near = zero-le; long = refl; passed = eachBelow-none (λ j. tInRange s (tOf s public j)) }
 
 each-range : (s : Numbers) (public : List ℕ) → tInRange s (allT s public) ≡ eachBelow (s .k) (λ j. tInRange s (tOf s public j))
 unfolding tInRange allT
 each-range s public = every-joined (λ v. ltb v (s .q)) (s .k) (tOf s public)
 
-module _ {s : Numbers} {public scratch : List ℕ} {i : ℕ} (p : Ranging s public scratch i) where
-  pub ranging-reads : {old : List ℕ} → ScansT s public old → i < s .k → ReadsT s public i scratch
+module _ {s : Numbers} {public old scratch : List ℕ} {i : ℕ} (p : Ranging s public old scratch i) where
+  pub ranging-reads : ScansT s public old → i < s .k → ReadsT s public i scratch
   ranging-reads q l =
       record {
         good = q .good;
         long = q .long;
         inside = l;
-        room = p .room;
+        room = p .long ∙ q .room;
       }
 
-  pub ranging-more : (new : List ℕ) {next : ℕ} {r : Bool} → i < s .k → length new ≡ length scratch → r ≡ tInRange s (tOf s public i)
-      → r ≡ true → next ≡ i + 1 → Ranging s public new next
-  ranging-more new l e f g n =
-      record {
-        near = omega arith;
-        room = e ∙ p .room;
-        passed = eachBelow-more (λ j. tInRange s (tOf s public j)) (p .passed) (sym f ∙ g) n;
-      }
+  module _ {r : Bool} (l : i < s .k) (f : r ≡ tInRange s (tOf s public i)) where
+    pub ranging-more : {new : List ℕ} {next : ℕ} → length new ≡ length scratch → not r ≡ false → next ≡ i + 1 → Ranging s public old new next
+    ranging-more e g n =
+        record {
+          near = omega arith;
+          long = e ∙ p .long;
+          passed = eachBelow-more (λ j. tInRange s (tOf s public j)) (p .passed) (holds f g) n;
+        }
 
-  pub ranging-fails : {r : Bool} → i < s .k → r ≡ tInRange s (tOf s public i) → r ≡ false → false ≡ tInRange s (allT s public)
-  ranging-fails l f g =
-      sym (each-range s public ∙ eachBelow-fails (s .k) i (λ j. tInRange s (tOf s public j)) l (sym f ∙ g))
+    pub ranging-fails : not r ≡ true → false ≡ tInRange s (allT s public)
+    ranging-fails g = sym (each-range s public ∙ eachBelow-fails (s .k) i (λ j. tInRange s (tOf s public j)) l (misses f g))
 
   pub ranging-all : s .k ≤ i → true ≡ tInRange s (allT s public)
   ranging-all l = sym (each-range s public ∙ eachBelow-end _ (p .near) l (p .passed))
@@ -153,9 +147,6 @@ module _ {s : Numbers} {public old t : List ℕ} {i : ℕ} (r : ReadsAllT s publ
 
   pub reading-fits : i < s .k → s .n * i + s .n ≤ length t
   reading-fits l = omega (arith, row-fits (s .n) (s .k) i l, reading-length, r .room)
-
-  pub reading-few : i < s .k → s .n * i + s .n ≤ 16711680
-  reading-few l = row-inside (r .good) l
 
   pub reading-reads : i < s .k → ReadsT s public i (take (s .n * i + s .n - s .n * i) (drop (s .n * i) t))
   reading-reads l =

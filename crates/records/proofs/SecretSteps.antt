@@ -58,13 +58,13 @@ read-takes good a e h =
       good = good;
       long = eqb-true _ _ (p .1 .1 .1 .1 .1 .0);
       lengths =
-        record {
-          s-long = eqb-true _ _ (p .0);
-          e-long = eqb-true _ _ (p .1 .0);
-          seedA-long = eqb-true _ _ (p .1 .1 .0);
-          seedY-long = eqb-true _ _ (p .1 .1 .1 .0);
-          g-long = eqb-true _ _ (p .1 .1 .1 .1 .0);
-        };
+          record {
+            s-long = eqb-true _ _ (p .0);
+            e-long = eqb-true _ _ (p .1 .0);
+            seedA-long = eqb-true _ _ (p .1 .1 .0);
+            seedY-long = eqb-true _ _ (p .1 .1 .1 .0);
+            g-long = eqb-true _ _ (p .1 .1 .1 .1 .0);
+          };
     }
 
 module _ {set : Numbers} {secret s e seedA seedY g : List ℕ} (p : TakesSecret set secret s e seedA seedY g) where
@@ -78,8 +78,7 @@ module _ {set : Numbers} {secret s e seedA seedY g : List ℕ} (p : TakesSecret 
         g-long = p .lengths .g-long;
       }
 
--- the values, each from its own stretch
-module _ {set : Numbers} {secret s e seedA seedY g : List ℕ} (p : TakesSecret set secret s e seedA seedY g) where
+  -- the values, each from its own stretch
   pub take-s : {new : List ℕ} → new ≡ take (length s) (drop 2 secret) → new ≡ sOf set secret
   unfolding sOf
   take-s f = f ∙ rw (p .lengths .s-long)
@@ -186,12 +185,12 @@ write-puts good a e h =
     record {
       good = good;
       lengths =
-        record {
-          s-long = eqb-true _ _ (p .0);
-          e-long = eqb-true _ _ (p .1 .0);
-          seedA-long = eqb-true _ _ (p .1 .1 .0);
-          seedY-long = eqb-true _ _ (p .1 .1 .1 .0);
-          g-long = eqb-true _ _ (p .1 .1 .1 .1 .0);
-        };
+          record {
+            s-long = eqb-true _ _ (p .0);
+            e-long = eqb-true _ _ (p .1 .0);
+            seedA-long = eqb-true _ _ (p .1 .1 .0);
+            seedY-long = eqb-true _ _ (p .1 .1 .1 .0);
+            g-long = eqb-true _ _ (p .1 .1 .1 .1 .0);
+          };
       long = eqb-true _ _ (p .1 .1 .1 .1 .1 .0);
     }

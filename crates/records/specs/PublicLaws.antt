@@ -148,12 +148,19 @@ module _ (s : Numbers) (t seedA : List ℕ) where
       pub public-reads : length seedA ≡ seedBytes → answer (readPublicTests s (publicRecord s t seedA) (s .k * s .n) seedBytes) ≡ 0
       unfolding readPublicTests publicTests AllPass
       public-reads e =
-          all-pass (readPublicTests s (publicRecord s t seedA) (s .k * s .n) seedBytes)
-          (eq-eqb (s .k * s .n) _ refl,
-          (refl,
-          (eq-eqb _ _ (publicRecord-length s t seedA long e),
-          (public-marked,
-          (below-tInRange s _ (rw public-allT below), tt)))))
+          all-pass (readPublicTests s (publicRecord s t seedA) (s .k * s .n) seedBytes) (
+            eq-eqb (s .k * s .n) _ refl,
+            (
+              refl,
+              (
+                eq-eqb _ _ (publicRecord-length s t seedA long e),
+                (
+                  public-marked,
+                  (below-tInRange s _ (rw public-allT below), tt),
+                ),
+              ),
+            ),
+          )
 
 -- ---- what reads is what would be written
 

@@ -81,16 +81,31 @@ module _ (set : Numbers) (s e seedA seedY g : List ℕ) where
         → answer (readSecretTests set (secretRecord set s e seedA seedY g) (set .n) (set .k * set .n) seedBytes seedBytes digestBytes) ≡ 0
     unfolding readSecretTests secretTests byteTests AllPass
     secret-reads h l =
-        all-pass (readSecretTests set (secretRecord set s e seedA seedY g) (set .n) (set .k * set .n) seedBytes seedBytes digestBytes)
-        (eq-eqb (set .n) _ refl,
-        (eq-eqb (set .k * set .n) _ refl,
-        (refl,
-        (refl,
-        (refl,
-        (eq-eqb _ _ secretRecord-length,
-        (secret-marked,
-        (ap inByteRange secret-s ∙ h,
-        (ap inByteRange secret-e ∙ l, tt)))))))))
+        all-pass (readSecretTests set (secretRecord set s e seedA seedY g) (set .n) (set .k * set .n) seedBytes seedBytes digestBytes) (
+          eq-eqb (set .n) _ refl,
+          (
+            eq-eqb (set .k * set .n) _ refl,
+            (
+              refl,
+              (
+                refl,
+                (
+                  refl,
+                  (
+                    eq-eqb _ _ secretRecord-length,
+                    (
+                      secret-marked,
+                      (
+                        ap inByteRange secret-s ∙ h,
+                        (ap inByteRange secret-e ∙ l, tt),
+                      ),
+                    ),
+                  ),
+                ),
+              ),
+            ),
+          ),
+        )
 
 -- ---- what reads is what would be written
 

@@ -7,7 +7,7 @@ ghost use Rattle.records.specs.Layout.{mark, marked, stretch};
 ghost use Rattle.records.specs.Asks.{Copies, CopiesAt, CopiesOut, Marks};
 
 // Copies from into the front of to. What follows stays.
-pub fn copy_in(from: &[u8], to: &mut [u8])
+fn copy_in(from: &[u8], to: &mut [u8])
     requires { ⌜ Copies (now from) (now to) ⌝ }
     ensures { λ _. ⌜ now (to .exit) ≡ now (from .entry) ++ drop (length (now (from .entry))) (now (to .entry)) ⌝ }
 {

@@ -28,7 +28,7 @@ pub fn t_bytes(set: Numbers) -> usize
 }
 
 // Where packed t_(i + 1) starts: after the mark and t_1..t_i.
-pub fn t_start(set: Numbers, i: usize) -> usize
+fn t_start(set: Numbers, i: usize) -> usize
     requires { ⌜ StartsT set i ⌝ }
     ensures { λ r. ⌜ r ≡ 2 + tBytes set * i ⌝ }
 {

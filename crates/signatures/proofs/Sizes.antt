@@ -28,7 +28,7 @@ use Rattle.signatures.specs.Asks.{SizesBits, RangesBits}
 
 module _ {z : ℤ} (f : SFits w32 z) where
   -- it is read as it is
-  pub z-read : toZ w32 (ofZ w32 z) ≡ z
+  z-read : toZ w32 (ofZ w32 z) ≡ z
   z-read = toZ-ofZ f
 
   size-fits : Fits w32 (natAbs z)

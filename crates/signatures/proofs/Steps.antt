@@ -33,7 +33,7 @@ use Rattle.signatures.specs.Laws.{zInRange-inside}
 
 -- ---- the bits of z
 
-pub z-wide : {s : Numbers} → Good s → 0 < s .«z_bits»
+z-wide : {s : Numbers} → Good s → 0 < s .«z_bits»
 z-wide good = omega (arith, good .z-byte)
 
 module _ {s : Numbers} {bits signature : List ℕ} {len : ℕ} (r : ScansZ s signature bits) (e : len ≡ zBytes s) where
@@ -50,11 +50,11 @@ module _ {s : Numbers} {bits signature : List ℕ} {len : ℕ} (r : ScansZ s sig
   bits-are g = g ∙ rw (add-sub-cancel-left 2 len, e, r .scratch-long)
 
 module _ (s : Numbers) (signature : List ℕ) {bits : List ℕ} (e : bits ≡ zBitsOf s signature) where
-  pub bits-below : Below (2 ^ s .«z_bits») bits
+  bits-below : Below (2 ^ s .«z_bits») bits
   unfolding zBitsOf
   bits-below = rw e (unpacked-below (s .«z_bits») (s .n) _)
 
-  pub bits-long : length bits ≡ s .n
+  bits-long : length bits ≡ s .n
   unfolding zBitsOf
   bits-long = rw e (unpacked-length (s .«z_bits») (s .n) _)
 

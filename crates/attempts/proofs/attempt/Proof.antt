@@ -1,5 +1,5 @@
 -- `attempts::attempt` meets its contract: set I is the only set. Assumes nothing.
-use Rattle.attempts.proofs.AttemptSteps.{digit-i, no-other}
+use Rattle.sets.specs.Known.{digit-i, no-other}
 use borrow.Author.Needs.{needs}
 use Rattle.attempts.proofs.attempt.Statement.{statement}
 use Rattle.attempts.proofs.attempt.Tie as tie

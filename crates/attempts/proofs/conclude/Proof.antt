@@ -1,66 +1,59 @@
+-- `attempts::conclude` meets its contract. Assumes nothing.
+use Rattle.attempts.proofs.AttemptSteps.{concluded-writes, concluded-passes, concluded-fails}
+use borrow.Author.Needs.{needs}
 use Rattle.attempts.proofs.conclude.Statement.{statement}
 use Rattle.attempts.proofs.conclude.Tie as tie
-use Rattle.attempts.proofs.conclude.Reads as reads
-use Rattle.attempts.proofs.conclude.Lts as lts
-use Rattle.attempts.proofs.challenge.Reads as challenge-reads
-use Rattle.attempts.proofs.respond.respond.Reads as respond-reads
-use Rattle.signatures.proofs.write_checked.Reads as write-checked-reads
 
--- src/lib.rt:55:5
+abbrev start-of : tie.After-challenge → tie.Start
+start-of c = c .before .before .before .before .before .before .before
+
+abbrev asked-at : tie.After-respond → tie.After-challenge
+asked-at c = c .before .before .before .before .before
+
 challenge-requires : tie.Need-challenge-requires
-challenge-requires c κs = ?
+challenge-requires c κs = search needs
 
--- src/lib.rt:56:8
 respond-requires : tie.Need-respond-requires
-respond-requires c κs = ?
+respond-requires c κs = search needs
 
--- src/lib.rt:57:43
 slice-aggregate-write-checked : tie.Need-slice-aggregate-write-checked
-slice-aggregate-write-checked c = ?
+slice-aggregate-write-checked c = search needs
 
--- src/lib.rt:57:9
 write-checked-requires : tie.Need-write-checked-requires
-write-checked-requires c κs = ?
+write-checked-requires c κs =
+    let answered = c .before .before .before .before .before .before .before .before .before in
+    let asked = asked-at answered in
+    concluded-writes (start-of asked .pre) (asked .challenge .ensures) (answered .respond .ensures) (c .before .before .before .before .if1 .taken) (search needs) (search needs)
 
--- src/lib.rt:40:1
 same-length : tie.Need-same-length
-same-length c = ?
+same-length c = search needs
 
--- src/lib.rt:40:1
 same-length-2 : tie.Need-same-length-2
-same-length-2 c = ?
+same-length-2 c = search needs
 
--- src/lib.rt:40:1
 same-length-3 : tie.Need-same-length-3
-same-length-3 c = ?
+same-length-3 c = search needs
 
--- src/lib.rt:40:1
 same-length-4 : tie.Need-same-length-4
-same-length-4 c = ?
+same-length-4 c = search needs
 
--- src/lib.rt:40:1
 same-length-5 : tie.Need-same-length-5
-same-length-5 c = ?
+same-length-5 c = search needs
 
--- src/lib.rt:40:1
 returns : tie.Need-returns
-returns c = ?
+returns c = search (concluded-passes, needs)
 
--- src/lib.rt:40:1
 same-length-6 : tie.Need-same-length-6
-same-length-6 c = ?
+same-length-6 c = search needs
 
--- src/lib.rt:40:1
 same-length-7 : tie.Need-same-length-7
-same-length-7 c = ?
+same-length-7 c = search needs
 
--- src/lib.rt:40:1
 same-length-8 : tie.Need-same-length-8
-same-length-8 c = ?
+same-length-8 c = search needs
 
--- src/lib.rt:40:1
 returns-2 : tie.Need-returns-2
-returns-2 c = ?
+returns-2 c = search (concluded-fails, needs)
 
 pub conclude-spec : {M : Type 1} → statement M
 conclude-spec =

@@ -5,17 +5,11 @@ use borrow.Author.Needs.{needs}
 use Rattle.records.proofs.public.t_bytes.Statement.{statement}
 use Rattle.records.proofs.public.t_bytes.Tie as tie
 
-cast-result : tie.Need-cast-result
-cast-result c = search needs
-
-mul-result : tie.Need-mul-result
-mul-result c = omega (arith, t-bits-few (c .before .before .pre))
-
-add-result : tie.Need-add-result
-add-result c = omega (arith, t-bits-few (c .before .before .pre))
-
-returns : tie.Need-returns
-returns c = search needs
-
 pub t-bytes-spec : {M : Type 1} → statement M
-t-bytes-spec = tie.close (tie.spec cast-result mul-result add-result returns)
+t-bytes-spec =
+    tie.close
+    (tie.spec
+    (λ c. search needs)
+    (λ c. omega (arith, t-bits-few (c .before .before .pre)))
+    (λ c. omega (arith, t-bits-few (c .before .before .pre)))
+    (λ c. search needs))

@@ -5,11 +5,9 @@ use Rattle.sets.specs.GoodLaws.{n-few}
 use Rattle.records.proofs.secret.e_start.Statement.{statement}
 use Rattle.records.proofs.secret.e_start.Tie as tie
 
-add-result : tie.Need-add-result
-add-result c = omega (arith, n-few (c .before .pre))
-
-returns : tie.Need-returns
-returns c = search needs
-
 pub e-start-spec : {M : Type 1} → statement M
-e-start-spec = tie.close (tie.spec add-result returns)
+e-start-spec =
+    tie.close
+    (tie.spec
+    (λ c. omega (arith, n-few (c .before .pre)))
+    (λ c. search needs))

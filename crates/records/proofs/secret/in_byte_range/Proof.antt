@@ -2,6 +2,7 @@
 use native.Mathlib.Omega.{arith}
 use Prim.Native.Nat.{_-_}
 use lib.ListN.{length}
+use borrow.Author.Needs.{needs}
 use Rattle.whole.specs.EveryLaws.{passing-none}
 use Rattle.records.proofs.SecretSteps.{Testing, testing-more, testing-fails, testing-all}
 use Rattle.records.proofs.secret.in_byte_range.Statement.{statement}
@@ -13,41 +14,16 @@ Inv-loop bytes i₀ i = Testing bytes i
 abbrev μ-loop : tie.MeasureT-loop
 μ-loop bytes i₀ i = length bytes - i
 
-loop-holds : tie.Need-loop-holds Inv-loop μ-loop
-loop-holds c = passing-none _ _
-
-shared-slice-read-if1 : tie.Need-shared-slice-read-if1 Inv-loop μ-loop
-shared-slice-read-if1 c = omega arith
-
-returns : tie.Need-returns Inv-loop μ-loop
-returns c =
-    let at = c .before .before .before in
-    testing-fails (at .before .args .bytes .now) (at .loop .inv) (omega arith) (omega arith)
-
-add-i : tie.Need-add-i Inv-loop μ-loop
-add-i c = omega arith
-
-loop-less : tie.Need-loop-less Inv-loop μ-loop
-loop-less c = omega arith
-
-loop-again : tie.Need-loop-again Inv-loop μ-loop
-loop-again c =
-    let at = c .before .before .before in
-    testing-more (at .before .args .bytes .now) (at .loop .inv) (omega arith) (omega arith) (omega arith)
-
-returns-2 : tie.Need-returns-2 Inv-loop μ-loop
-returns-2 c = testing-all (c .before .before .args .bytes .now) (c .before .loop .inv) (omega arith)
-
 pub in-byte-range-spec : {M : Type 1} → statement M
 in-byte-range-spec =
     tie.close
     (tie.spec
     Inv-loop
     μ-loop
-    loop-holds
-    shared-slice-read-if1
-    returns
-    add-i
-    loop-less
-    loop-again
-    returns-2)
+    (λ c. passing-none _ _)
+    (λ c. omega arith)
+    (λ c. search (testing-fails, needs))
+    (λ c. omega arith)
+    (λ c. omega arith)
+    (λ c. search (testing-more, needs))
+    (λ c. search (testing-all, needs)))
