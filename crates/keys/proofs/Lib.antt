@@ -1,3 +1,5 @@
+pub mod Determined
+pub mod PassedSteps
 pub mod PutSteps
 pub mod RecordSteps
 pub mod RowSteps

@@ -1,16 +1,10 @@
 -- The two records of a key as they are written: what each piece asks, and that together they are `publicOf` and `secretOf`.
 -- Assumes nothing.
-use mathlib.Core.Path.{_≡_, refl, sym, ap, _∙_}
-use mathlib.Core.Bool.{Bool, true}
+use mathlib.Core.Path.{_≡_, ap, _∙_}
 use mathlib.Core.List.{List, _++_}
 use Prim.Native.Nat.{ℕ, _+_, _*_, _-_}
 use native.Mathlib.Omega.{arith}
-use lib.Dec.{eqb}
 use lib.ListN.{length, take, drop}
-use borrow.Author.Tests.{eqb-true}
-use Rattle.whole.specs.Every.{every}
-use Rattle.answers.specs.Tests.{Answered}
-use Rattle.answers.specs.TestLaws.{AllPass, all-passed}
 use Rattle.sets.specs.declared.Numbers.{Numbers}
 use Rattle.sets.specs.Known.{Known, known-good}
 use Rattle.sets.specs.SetI.{setI}
@@ -18,10 +12,10 @@ use Rattle.sampling.specs.Streams.{keyDigest}
 use Rattle.records.specs.Asks.{PutsPublic, Marks}
 use Rattle.records.specs.Layout.{mark, stretch, tBytes}
 use Rattle.records.specs.PublicLaws.{public-packed}
-use Rattle.records.specs.Secret.{secretRecord, byteTests}
+use Rattle.records.specs.Secret.{secretRecord}
 use Rattle.records.proofs.PublicSteps.{put-is}
-use Rattle.keys.specs.Asks.{ForPublic, ForSecret}
-use Rattle.keys.specs.Key.{allKeyT, publicOf, secretOf, secretsTests, makeKeyTests}
+use Rattle.keys.specs.Asks.{ForPublic}
+use Rattle.keys.specs.Key.{allKeyT, publicOf, secretOf}
 use Rattle.keys.specs.KeyLaws.{allKeyT-length, allKeyT-below}
 use Rattle.keys.specs.Promises.{MakesKey, PutsT}
 
@@ -38,8 +32,7 @@ module _ {set : Numbers} {s e seedA old : List ℕ} (known : Known set) (asked :
   pub public-is : {marks packs new : List ℕ} {at : ℕ} → marks ≡ mark set 1 ++ drop 2 old → PutsT set s e seedA marks packs
       → at ≡ 2 + set .k * tBytes set → new ≡ take at packs ++ (seedA ++ drop (at + length seedA) packs) → new ≡ publicOf set s e seedA
   unfolding publicOf
-  public-is marks-are packs-are at-is copied =
-      put-is puts marks-are (packs-are .is) at-is copied
+  public-is marks-are packs-are at-is copied = put-is puts marks-are (packs-are .is) at-is copied
     where
       puts : PutsPublic set (allKeyT set s e seedA) seedA old
       puts =
@@ -72,32 +65,6 @@ secret-is set s e seedA seedY public-is written =
     written
     ∙ ap (λ (l : List ℕ). secretRecord set s e seedA seedY (keyDigest set l))
     (ap (stretch 2 (set .k * tBytes set)) public-is ∙ public-packed set (allKeyT set s e seedA) seedA (allKeyT-length set s e seedA))
-
--- ---- what passed tests say
-
-module _ {set : Numbers} {s e seedA : List ℕ} (seedY public secret : List ℕ) {number : ℕ} {done : Bool} (known : Known set)
-    (a : Answered (makeKeyTests set s e seedA seedY (length public) (length secret)) number) (d : done ≡ eqb number 0) (h : done ≡ true) where
-  pub passed-secret : (public₁ : List ℕ) → length public₁ ≡ length public → ForSecret set s e seedA seedY public₁ secret
-  unfolding makeKeyTests secretsTests byteTests AllPass every
-  passed-secret public₁ kept =
-      let p = all-passed refl a d h in
-      record {
-        good = known-good known;
-        s-long = eqb-true _ _ (p .0);
-        e-long = eqb-true _ _ (p .1 .0);
-        seedA-long = eqb-true _ _ (p .1 .1 .0);
-        seedY-long = eqb-true _ _ (p .1 .1 .1 .0);
-        public-long = kept ∙ eqb-true _ _ (p .1 .1 .1 .1 .0);
-        secret-long = eqb-true _ _ (p .1 .1 .1 .1 .1 .0);
-      }
-
-  pub passed-public : ForPublic set s e seedA public
-  passed-public =
-      let asked = passed-secret public refl in
-      record {
-        for-put = record { s-long = asked .s-long; e-long = asked .e-long; public-long = asked .public-long };
-        seedA-long = asked .seedA-long;
-      }
 
 -- ---- set I
 

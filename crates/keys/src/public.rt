@@ -104,7 +104,7 @@ fn put_t(set: Numbers, s: &[u8], e: &[u8], seed_a: &[u8], public: &mut [u8])
 }
 
 // Writes the public record of s, e_1..e_k and seed_a.
-pub fn put_public(set: Numbers, s: &[u8], e: &[u8], seed_a: &[u8], public: &mut [u8])
+pub(crate) fn put_public(set: Numbers, s: &[u8], e: &[u8], seed_a: &[u8], public: &mut [u8])
     requires { ⌜ Known set ⌝ }
     requires { ⌜ ForPublic set (now s) (now e) (now «seed_a») (now public) ⌝ }
     ensures { λ _. ⌜ now (public .exit) ≡ publicOf set (now (s .entry)) (now (e .entry)) (now («seed_a» .entry)) ⌝ }

@@ -2,7 +2,8 @@
 use borrow.Author.Needs.{needs}
 use Rattle.answers.specs.OutputLaws.{made-done, kept-refused}
 use Rattle.sets.specs.Known.{known-good}
-use Rattle.keys.proofs.RecordSteps.{secret-is, passed-public, passed-secret}
+use Rattle.keys.proofs.PassedSteps.{passed-public, passed-secret}
+use Rattle.keys.proofs.RecordSteps.{secret-is}
 use Rattle.keys.proofs.make.Statement.{statement}
 use Rattle.keys.proofs.make.Tie as tie
 

@@ -1,4 +1,5 @@
--- `keys::public::put_t` meets its contract. The loop's invariant: t_1..t_i stand packed in their stretches, and the rest of the record is as it was. Assumes nothing.
+-- `keys::public::put_t` meets its contract. The loop's invariant: t_1..t_i stand packed in their stretches, and the rest of the record
+-- is as it was. Assumes nothing.
 use borrow.Author.Needs.{needs}
 use Prim.Native.Nat.{_-_}
 use Rattle.whole.specs.Rows.{row-within}
