@@ -1,6 +1,7 @@
-pub mod AnswerLaws
 pub mod Determined
-pub mod PutLaws
-pub mod RecordLaws
-pub mod StepLaws
-pub mod TestLaws
+pub mod PassedSteps
+pub mod PutSteps
+pub mod RecordSteps
+pub mod RowSteps
+pub mod SumSteps
+pub mod TestSteps

@@ -19,10 +19,13 @@ use Rattle.sets.specs.Limits.{seedBytes}
 use Rattle.records.specs.Public.{packedT, publicRecord}
 use Rattle.records.specs.Secret.{secretRecord, eOf, byteTests}
 
+-- a s + e, from 0 to q − 1
+abbrev pub sumOf : Numbers → List ℕ → List ℕ → List ℕ → List ℕ
+sumOf set a s e = residues (set .q) (set .n) (λ j. mul (set .n) (naturals a) (signedBytes s) j +ℤ signedBytes e j)
+
 -- t_(i + 1)
 unfoldable pub keyT : Numbers → List ℕ → List ℕ → List ℕ → ℕ → List ℕ
-keyT set s e seedA i =
-    residues (set .q) (set .n) (λ j. mul (set .n) (naturals (aOf set seedA i)) (signedBytes s) j +ℤ signedBytes (eOf set e i) j)
+keyT set s e seedA i = sumOf set (aOf set seedA i) s (eOf set e i)
 
 -- t_1..t_k in a row
 unfoldable pub allKeyT : Numbers → List ℕ → List ℕ → List ℕ → List ℕ

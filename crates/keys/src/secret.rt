@@ -8,7 +8,7 @@ ghost use Rattle.records.specs.Secret.{secretRecord};
 ghost use Rattle.keys.specs.Asks.{ForSecret};
 
 // Writes the secret record, with g of the packed t_1..t_k that stand in the public record.
-pub fn put_secret(
+pub(crate) fn put_secret(
     set: Numbers,
     s: &[u8],
     e: &[u8],
