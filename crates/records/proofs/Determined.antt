@@ -44,8 +44,8 @@ use Rattle.records.proofs.secret.g_start.Kinds as secret-g-start-kinds
 use Rattle.records.proofs.secret.g_start.Reads as secret-g-start
 use Rattle.records.proofs.secret.secret_bytes.Kinds as secret-secret-bytes-kinds
 use Rattle.records.proofs.secret.secret_bytes.Reads as secret-secret-bytes
-use Rattle.records.proofs.secret.test_bytes.Kinds as secret-test-bytes-kinds
-use Rattle.records.proofs.secret.test_bytes.Reads as secret-test-bytes
+use Rattle.records.proofs.secret.in_byte_range.Kinds as secret-in-byte-range-kinds
+use Rattle.records.proofs.secret.in_byte_range.Reads as secret-in-byte-range
 use Rattle.records.proofs.secret.put.Kinds as secret-put-kinds
 use Rattle.records.proofs.secret.put.Reads as secret-put
 
@@ -144,8 +144,8 @@ secret-g-start-determined κs a x y e f p q = p ∙ sym q
 pub secret-secret-bytes-determined : Result 0 secret-secret-bytes-kinds.ps secret-secret-bytes-kinds.r secret-secret-bytes.Learnt
 secret-secret-bytes-determined κs a x y e f p q = p ∙ sym q
 
-pub secret-test-bytes-determined : Result 2 secret-test-bytes-kinds.ps secret-test-bytes-kinds.r secret-test-bytes.Learnt
-secret-test-bytes-determined κs a x y e f p q = number-one x y (p .is ∙ sym (q .is))
+pub secret-in-byte-range-determined : Result 1 secret-in-byte-range-kinds.ps secret-in-byte-range-kinds.r secret-in-byte-range.Learnt
+secret-in-byte-range-determined κs a x y e f p q = p ∙ sym q
 
 pub secret-put-secret : Output 6 secret-put-kinds.ps secret-put-kinds.r secret-put.Learnt (λ κs e. now (e .1 .1 .1 .1 .1 .1 .0))
 secret-put-secret κs a x y e f p q = p ∙ sym q

@@ -13,6 +13,6 @@ attempt-i-spec =
     (λ c. search needs)
     (λ c. search needs)
     (λ c. search needs)
-    (λ c κs. search (known-i, places-i, needs))
+    (λ c κs. (search (known-i, needs), (search needs, search (places-i, needs))))
     (λ c. search needs)
     (λ c. search needs))
