@@ -1,5 +1,5 @@
 -- The search, one counter after another, and what it found. Assumes nothing.
-use mathlib.Core.Path.{_≡_, refl, sym, ap, _∙_}
+use mathlib.Core.Path.{_≡_, refl, ap, _∙_}
 use mathlib.Core.List.{List}
 use Prim.Native.Nat.{ℕ, zero, suc, _+_, _≤_, _<_}
 use native.Mathlib.Numerals.{add-one}
@@ -9,14 +9,14 @@ use Rattle.sets.specs.declared.Numbers.{Numbers}
 use Rattle.sets.specs.SetI.{setI}
 use Rattle.sampling.specs.Streams.{allA}
 use Rattle.records.specs.Secret.{secretSeedA}
-use Rattle.signing.specs.declared.attempt.Tried.{Tried}
-use Rattle.signing.specs.declared.attempt.Tried.the-variants.{Passes, Fails, Overflows}
-use Rattle.signing.specs.declared.search.Searched.the-variants.{Found, Nothing, Overflow}
-use Rattle.signing.specs.Attempt.{Outcome, passes, fails, overflows}
-use Rattle.signing.specs.Search.{next, searchFrom, search}
-use Rattle.signing.specs.Search as searches
-use Rattle.signing.specs.Asks.{Attempts, Searches, SearchesKey, DrawsKey}
-use Rattle.signing.specs.Tries.{Tries, triedOf, triedSignature, Finds}
+use Rattle.attempts.specs.declared.Tried.{Tried}
+use Rattle.attempts.specs.declared.Tried.the-variants.{Passes, Fails, Overflows}
+use Rattle.attempts.specs.Attempt.{Outcome, passes, fails, overflows}
+use Rattle.attempts.specs.Asks.{Attempts, DrawsKey}
+use Rattle.attempts.specs.Promises.{Tries, triedOf, triedSignature}
+use Rattle.signing.specs.Search.{Found, next, searchFrom, search}
+use Rattle.signing.specs.Promises.{Gives}
+use Rattle.signing.specs.Asks.{Searches, SearchesKey}
 
 -- ---- the search in set I
 
@@ -55,24 +55,24 @@ module _ {try : ℕ → Outcome} {budget : ℕ} {old signature : List ℕ} {coun
   searching-asks h = rw (s .same) (h .attempts)
 
   module _ (l : counter ≤ budget) {set : Numbers} {new : List ℕ} {r : Tried} (t : Tries set (try counter) signature new r) where
-    abbrev later : searches.Found
+    abbrev later : Found
     later = searchFrom try (searching-is s l .0) (suc counter)
 
-    pub searching-found : r ≡ Passes → Finds set (search try budget) old new (Found counter)
+    pub searching-found : r ≡ Passes → Gives set 0 (search try budget) old new 0 counter
     searching-found h = rw (searching-is s l .1 .1) (go (try counter) (t .answer) (t .signature))
       where
-        go : (o : Outcome) → r ≡ triedOf o → new ≡ triedSignature set o signature → Finds set (next o counter later) old new (Found counter)
-        go (passes z c′) a w = record { answer = refl; signature = w }
+        go : (o : Outcome) → r ≡ triedOf o → new ≡ triedSignature set o signature → Gives set 0 (next o counter later) old new 0 counter
+        go (passes z c′) a w = record { number-is = refl; counter-is = refl; signature-is = w }
         go fails a w = absurd (let x : _≡_ {A = ℕ} 0 1 = cc in omega arith)
         go overflows a w = absurd (let x : _≡_ {A = ℕ} 0 1 = cc in omega arith)
 
-    pub searching-overflow : r ≡ Overflows → Finds set (search try budget) old new Overflow
+    pub searching-overflow : r ≡ Overflows → Gives set 0 (search try budget) old new 10 0
     searching-overflow h = rw (searching-is s l .1 .1) (go (try counter) (t .answer) (t .signature))
       where
-        go : (o : Outcome) → r ≡ triedOf o → new ≡ triedSignature set o signature → Finds set (next o counter later) old new Overflow
+        go : (o : Outcome) → r ≡ triedOf o → new ≡ triedSignature set o signature → Gives set 0 (next o counter later) old new 10 0
         go (passes z c′) a w = absurd (let x : _≡_ {A = ℕ} 0 1 = cc in omega arith)
         go fails a w = absurd (let x : _≡_ {A = ℕ} 0 1 = cc in omega arith)
-        go overflows a w = record { answer = refl; signature = w ∙ s .same }
+        go overflows a w = record { number-is = refl; counter-is = refl; signature-is = w ∙ s .same }
 
     pub searching-more : r ≡ Fails → Searching try budget old new (counter + 1)
     searching-more h = go (try counter) (t .answer) (t .signature) (searching-is s l .1 .1)
@@ -89,10 +89,10 @@ module _ {try : ℕ → Outcome} {budget : ℕ} {old signature : List ℕ} {coun
             }
         go overflows a w e = absurd (let x : _≡_ {A = ℕ} 0 1 = cc in omega arith)
 
-  pub searching-end : budget < counter → {set : Numbers} → Finds set (search try budget) old signature Nothing
+  pub searching-end : budget < counter → {set : Numbers} → Gives set 0 (search try budget) old signature 8 0
   unfolding searchFrom
   searching-end l {set} = go (s .left) (s .within) (s .is)
     where
-      go : (left : ℕ) → counter + left ≡ budget + 1 → search try budget ≡ searchFrom try left counter → Finds set (search try budget) old signature Nothing
-      go zero w e = rw e (record { answer = refl; signature = s .same })
+      go : (left : ℕ) → counter + left ≡ budget + 1 → search try budget ≡ searchFrom try left counter → Gives set 0 (search try budget) old signature 8 0
+      go zero w e = rw e (record { number-is = refl; counter-is = refl; signature-is = s .same })
       go (suc left) w e = absurd (omega arith)

@@ -1,114 +1,93 @@
--- Signing after its tests, and the answer of the tests. Assumes nothing.
-use mathlib.Core.Path.{_≡_, refl, sym, ap, subst, _∙_}
-use mathlib.Core.Bool.{Bool, true, false, _&&_, true≢false}
+-- Signing after its tests, and what its tests say. Assumes nothing.
+use mathlib.Core.Path.{_≡_, refl, sym, _∙_}
+use mathlib.Core.Bool.{Bool, true, false, not}
 use mathlib.Core.List.{List}
-use Prim.Native.Nat.{ℕ, zero, suc, _+_, _*_, _-_, _≤_}
+use Prim.Native.Nat.{ℕ, zero, suc, _+_, _*_, _-_}
 use native.Mathlib.Omega.{arith}
-use lib.Dec.{eqb, leb}
+use lib.Dec.{eqb}
 use lib.ListN.{length, take, drop}
-use borrow.Author.Tests.{eqb-true, leb-true}
-use Rattle.answers.specs.Tests.{answer}
-use Rattle.whole.specs.EveryLaws.{both-second, same-first, same-rest}
-use Rattle.answers.specs.TestLaws.{answer-first, answer-rest}
+use borrow.Author.Tests.{eqb-true, eqb-false, leb-true, not-true, not-false}
+use Rattle.whole.specs.Every.{every}
+use Rattle.answers.specs.Tests.{answer, Answered}
+use Rattle.answers.specs.TestLaws.{AllPass, all-passed}
 use Rattle.sets.specs.declared.Numbers.{Numbers}
 use Rattle.sets.specs.Good.{Good}
 use Rattle.sets.specs.SetI.{setI}
-use Rattle.sets.specs.Limits.{budgetLimit, seedBytes}
+use Rattle.sets.specs.Limits.{seedBytes}
 use Rattle.sampling.specs.Streams.{messageDigest, randOf}
-use Rattle.records.specs.Layout.{secretBytes, signatureBytes}
-use Rattle.records.specs.Secret.{secretSeedY}
-use Rattle.signing.specs.declared.search.Searched.{Searched}
-use Rattle.signing.specs.declared.SignAnswer.{SignAnswer}
-use Rattle.signing.specs.Attempt.{attempt}
-use Rattle.signing.specs.Search.{Found, found, none, overflow, search}
-use Rattle.signing.specs.Sign.{keyOf, signTests, signSearch, foundNumber, foundCounter, signNumber}
-use Rattle.signing.specs.Answers.{signAnswerNumber, signAnswerCounter}
-use Rattle.signing.specs.Tries.{searchedOf, Finds, signOf, Signs}
+use Rattle.records.specs.Secret.{byteTests, sOf, allE, secretSeedY}
+use Rattle.records.specs.SecretLaws.{s-lent, e-lent, e-lent-long}
+use Rattle.keys.specs.Asks.{LongE}
+use Rattle.keys.specs.Key.{secretsTests}
+use Rattle.attempts.specs.Attempt.{keyOf, attempt}
+use Rattle.signing.specs.Search.{Found, search}
+use Rattle.signing.specs.Sign.{beginTests, signTests, signSearch}
+use Rattle.signing.specs.Promises.{Hashed, Gives, Signs}
 use Rattle.signing.specs.Asks.{SearchesKey}
 
-pub hash-rand : (set : Numbers) (secret r message : List ℕ) {y g : ℕ} → y ≡ 2 + set .n + set .k * set .n + seedBytes → g ≡ 2 + set .n + set .k * set .n + seedBytes + seedBytes
-    → {new made : List ℕ} → made ≡ messageDigest set message → new ≡ randOf set (take (g - y) (drop y secret)) r made
-    → new ≡ randOf set (secretSeedY set secret) r (messageDigest set message)
+-- ---- s and e_1..e_k of a secret record
+
+module _ {set : Numbers} {secret : List ℕ} {middle end : ℕ} (a : middle ≡ 2 + set .n) (b : end ≡ 2 + set .n + set .k * set .n) where
+  pub secrets-asked : {len : ℕ} → Good set → length secret ≡ len → len ≡ 2 + (set .n + (set .k * set .n + (seedBytes + (seedBytes + 40))))
+      → LongE set (take (end - middle) (drop middle secret))
+  secrets-asked good e f = record { good = good; e-long = e-lent-long set secret a b (e ∙ f) }
+
+  pub secrets-lent : {number : ℕ} → Answered (secretsTests set (take (middle - 2) (drop 2 secret)) (take (end - middle) (drop middle secret))) number
+      → Answered (secretsTests set (sOf set secret) (allE set secret)) number
+  secrets-lent t = rw (s-lent set secret a b, e-lent set secret a b) at t
+
+-- ---- G of the message, and rand
+
+pub hashed : {set : Numbers} {secret r message : List ℕ} {y g : ℕ} → y ≡ 2 + set .n + set .k * set .n + seedBytes
+    → g ≡ 2 + set .n + set .k * set .n + seedBytes + seedBytes
+    → {digest rand : List ℕ} → digest ≡ messageDigest set message → rand ≡ randOf set (take (g - y) (drop y secret)) r digest
+    → Hashed set secret message r digest rand
 unfolding secretSeedY
-hash-rand set secret r message {y} {g} d f e h = h ∙ rw (e, size, d)
+hashed {set} {secret} {y = y} {g = g} d f e h = record { digest-is = e; rand-is = h ∙ rw (e, size, d) }
   where
     size : g - y ≡ seedBytes
     size = omega arith
 
--- ---- what was found
+-- ---- what was found is signed
 
-found-number : (f : Found) → signAnswerNumber (signOf (searchedOf f)) ≡ foundNumber f
-found-number (found counter z c′) = refl
-found-number none = refl
-found-number overflow = refl
-
-found-counter : (f : Found) → signAnswerCounter (signOf (searchedOf f)) ≡ foundCounter f
-found-counter (found counter z c′) = refl
-found-counter none = refl
-found-counter overflow = refl
-
-pub sign-found : (set : Numbers) (secret message r : List ℕ) (budget : ℕ) {digest rand old new : List ℕ} {x : Searched} {a : SignAnswer}
-    → digest ≡ messageDigest set message → rand ≡ randOf set (secretSeedY set secret) r (messageDigest set message)
-    → Finds set (search (attempt set (keyOf set secret) digest rand) budget) old new x → a ≡ signOf x
-    → Signs set 0 (signSearch set secret message r budget) old new a
+pub sign-found : {set : Numbers} {secret message r : List ℕ} {budget : ℕ} {digest rand old new : List ℕ} {number counter : ℕ}
+    → Hashed set secret message r digest rand
+    → Gives set 0 (search (attempt set (keyOf set secret) digest rand) budget) old new number counter
+    → Gives set 0 (signSearch set secret message r budget) old new number counter
 unfolding signSearch
-sign-found set secret message r budget {digest} {rand} d n f e =
-    rw (← n, ← d)
-    (record {
-      number = ap signAnswerNumber (e ∙ ap signOf (f .answer)) ∙ found-number (search (attempt set (keyOf set secret) digest rand) budget);
-      counter = ap signAnswerCounter (e ∙ ap signOf (f .answer)) ∙ found-counter (search (attempt set (keyOf set secret) digest rand) budget);
-      signature = f .signature;
-    })
+sign-found h f = rw (h .digest-is, h .rand-is) at f
 
 -- ---- the tests' answer
 
-module _ {set : Numbers} {number : ℕ} {f : Found} {old : List ℕ} {a : SignAnswer} where
+module _ {set : Numbers} {secret message r old : List ℕ} {budget number : ℕ} {done : Bool}
+    (t : Answered (signTests set secret (length message) (length r) budget (length old)) number) (e : done ≡ eqb number 0) where
   -- a test does not pass
-  pub refused-answers : {tested : ℕ} {b : Bool} → tested ≡ number → b ≡ eqb tested 0 → b ≡ false → signAnswerNumber a ≡ tested → signAnswerCounter a ≡ 0
-      → Signs set number f old old a
-  refused-answers e p t n k = go number (ap (λ (m : ℕ). eqb m 0) (sym e) ∙ sym p ∙ t) (n ∙ e)
+  pub sign-refused : not done ≡ true → Signs set secret message r budget old old number 0
+  sign-refused h = go number (t .is) (eqb-false number 0 (sym e ∙ not-true done h))
     where
-      go : (m : ℕ) → eqb m 0 ≡ false → signAnswerNumber a ≡ m → Signs set m f old old a
-      go zero h i = absurd (true≢false h)
-      go (suc m) h i = record { number = i; counter = k; signature = refl }
+      go : (n : ℕ) → n ≡ answer (signTests set secret (length message) (length r) budget (length old)) → (n ≡ 0 → ⊥)
+          → Signs set secret message r budget old old n 0
+      go zero f k = absurd (k refl)
+      go (suc n) f k = rw (← f) (record { number-is = refl; counter-is = refl; signature-is = refl })
 
-  -- every test passes
-  pub passed-answers : {new : List ℕ} → number ≡ 0 → Signs set 0 f old new a → Signs set number f old new a
-  passed-answers e s = rw e s
+  module _ (h : not done ≡ false) where
+    -- every test passes
+    pub sign-goes-on : {new : List ℕ} {n counter : ℕ} → Gives set 0 (signSearch set secret message r budget) old new n counter
+        → Signs set secret message r budget old new n counter
+    sign-goes-on g = rw (← sym (eqb-true number 0 (sym e ∙ not-false done h)) ∙ t .is) g
 
-pub tests-pass : {tested number : ℕ} {b : Bool} → tested ≡ number → b ≡ eqb tested 0 → b ≡ true → number ≡ 0
-tests-pass {tested} e p t = sym e ∙ eqb-true tested 0 (sym p ∙ t)
-
-module _ (set : Numbers) (secret : List ℕ) (message r budget signature : ℕ) (e : answer (signTests set secret message r budget signature) ≡ 0) where
-  lengths : (eqb (length secret) (secretBytes set) && (eqb r seedBytes && eqb signature (signatureBytes set))) ≡ true
-  unfolding signTests
-  lengths = answer-first _ 0 _ e
-
-  tested-secret : length secret ≡ secretBytes set
-  tested-secret = same-first (length secret) (secretBytes set) _ lengths
-
-  tested-signature : signature ≡ signatureBytes set
-  tested-signature = eqb-true signature (signatureBytes set) (same-rest r seedBytes _ (same-rest (length secret) (secretBytes set) _ lengths))
-
-  tested-budget : budget ≤ budgetLimit
-  unfolding signTests
-  tested-budget =
-      leb-true budget budgetLimit
-      (both-second (leb 1 budget) (leb budget budgetLimit) (answer-first _ 3 _ (answer-rest _ 2 _ (answer-rest _ 1 _ (answer-rest _ 0 _ e)))))
-
-pub tested-key : (set : Numbers) (secret : List ℕ) (message r budget : ℕ) (old : List ℕ) {tested : ℕ} {b : Bool}
-    → tested ≡ answer (signTests set secret message r budget (length old)) → b ≡ eqb tested 0 → b ≡ true → Good set → SearchesKey set secret budget old
-tested-key set secret message r budget old e p t good =
-    let none = tests-pass e p t in
-    record {
-      whole = record { good = good; long = tested-secret set secret message r budget (length old) none };
-      few = tested-budget set secret message r budget (length old) none;
-      signature-long = tested-signature set secret message r budget (length old) none;
-    }
+    pub search-asked : Good set → SearchesKey set secret budget old
+    unfolding signTests beginTests secretsTests byteTests AllPass every
+    search-asked good =
+        let p = all-passed refl t e (not-false done h) in
+        record {
+          whole = record { good = good; long = eqb-true _ _ (p .1 .0) };
+          few = leb-true _ _ (p .1 .1 .1 .1 .1 .1 .0);
+          signature-long = eqb-true _ _ (p .0);
+        }
 
 -- ---- set I
 
-pub signed-i : {set : Numbers} → set ≡ setI → (secret message r : List ℕ) (budget : ℕ) (old : List ℕ) {new : List ℕ} {a : SignAnswer}
-    → Signs set (answer (signTests set secret (length message) (length r) budget (length old))) (signSearch set secret message r budget) old new a
-    → Signs setI (answer (signTests setI secret (length message) (length r) budget (length old))) (signSearch setI secret message r budget) old new a
-signed-i e secret message r budget old s = rw e at s
+pub signs-i : {set : Numbers} {secret message r : List ℕ} {budget : ℕ} {old new : List ℕ} {number counter : ℕ} → set ≡ setI
+    → Signs set secret message r budget old new number counter → Signs setI secret message r budget old new number counter
+signs-i e s = rw e at s

@@ -3,8 +3,7 @@
 use borrow.Author.Needs.{needs}
 use Prim.Native.Nat.{_+_, _-_}
 use native.Mathlib.Omega.{arith}
-use Rattle.signing.specs.Attempt.{attempt}
-use Rattle.signing.specs.Sign.{keyOf}
+use Rattle.attempts.specs.Attempt.{keyOf, attempt}
 use Rattle.signing.proofs.SearchSteps.{Searching, searching-none, searching-asks, searching-found, searching-overflow, searching-more, searching-end}
 use Rattle.signing.proofs.search.search.Statement.{statement}
 use Rattle.signing.proofs.search.search.Tie as tie
