@@ -17,7 +17,7 @@ use Rattle.whole.specs.EveryLaws.{Passing, passing-more, passing-fails, passing
 use Rattle.whole.specs.Parts.{part-length}
 use Rattle.whole.specs.Rows.{row-fits}
 use Rattle.whole.specs.Table.{joined, joined-length}
-use Rattle.whole.specs.Written.{lent-rest, put-rest, Written, written-none, written-kept, written-length, written-more, written-all, put-part, written-front}
+use Rattle.whole.specs.Written.{lent-rest, put-rest, Written, written-none, written-kept, written-length, written-more, written-all, put-part}
 use Rattle.answers.specs.Tests.{Answered}
 use Rattle.answers.specs.TestLaws.{AllPass, all-passed, holds, misses}
 use Rattle.packing.specs.Digits.{bytesFor, packed, unpacked, Packs, Unpacks}
@@ -25,9 +25,9 @@ use Rattle.sets.specs.declared.Numbers.{Numbers}
 use Rattle.sets.specs.Good.{Good}
 use Rattle.sets.specs.GoodLaws.{n-few}
 use Rattle.sets.specs.Known.{Known, known-good}
-use Rattle.sets.specs.Limits.{seedBytes}
 use Rattle.sets.specs.SetI.{setI, good-i}
-use Rattle.records.specs.Layout.{tBytes, publicBytes, polynomial, mark}
+use Rattle.records.specs.Layout.{tBytes, polynomial, mark}
+use Rattle.records.specs.Pieces.{standing-mark, standing-next, standing-copy, standing-all}
 use Rattle.records.specs.Public.{tOf, allT, tInRange, packedT, publicRecord, seedAOf, publicTests, readPublicTests, writePublicTests}
 use Rattle.records.specs.Asks.{ReadsT, PacksT, ScansT, LongPublic, ReadsAllT, PacksAllT, PutsPublic, TakesPublic}
 use Rattle.records.specs.SizeLaws.{stretch-fits}
@@ -282,23 +282,10 @@ module _ {s : Numbers} {t seedA old : List ℕ} (p : PutsPublic s t seedA old) w
       → new ≡ take at packs ++ (seedA ++ drop (at + length seedA) packs)
       → new ≡ publicRecord s t seedA
   unfolding publicRecord
-  put-is {marks} {packs} {new} {at} e f g h =
-      written-all
-      (written-more second at (length seedA) seedA (g ∙ sym long₂) refl (omega (arith, p .long, p .seed)) h)
-      (length-append (mark s 1 ++ packedT s t) seedA ∙ omega (arith, long₂, p .long, p .seed))
-      ∙ append-assoc (mark s 1) (packedT s t) seedA
-    where
-      packed-long : length (packedT s t) ≡ s .k * tBytes s
-      packed-long = packedT-length s t (p .polynomials)
-
-      first : Written (mark s 1) old marks
-      first = written-front 2 refl (omega (arith, p .long)) e
-
-      second : Written (mark s 1 ++ packedT s t) old packs
-      second = written-more first 2 (s .k * tBytes s) (packedT s t) refl packed-long (omega (arith, p .long)) f
-
-      long₂ : length (mark s 1 ++ packedT s t) ≡ 2 + s .k * tBytes s
-      long₂ = length-append (mark s 1) (packedT s t) ∙ ap (λ (n : ℕ). 2 + n) packed-long
+  put-is e f g h =
+      let w₁ = standing-next (standing-mark s 1 old (omega (arith, p .long)) e) (packedT s t) refl (packedT-length s t (p .polynomials)) (omega (arith, p .long)) f in
+      let w₂ = standing-copy w₁ seedA g (p .seed) (omega (arith, p .long)) h in
+      standing-all w₂ (omega (arith, p .long)) ∙ append-assoc (mark s 1) (packedT s t) seedA
 
 -- values and a record that pass the tests
 pub write-puts : {s : Numbers} {t seedA public : List ℕ} {number : ℕ} {done : Bool} → Good s

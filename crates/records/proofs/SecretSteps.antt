@@ -1,23 +1,22 @@
 -- The steps of reading and writing a secret record.
 -- Assumes nothing.
-use mathlib.Core.Path.{_≡_, refl, sym, ap, ap₂, _∙_}
+use mathlib.Core.Path.{_≡_, refl, ap, _∙_}
 use mathlib.Core.Bool.{Bool, true, false, not}
 use mathlib.Core.List.{List, _++_, append-assoc}
 use Prim.Native.Nat.{ℕ, _+_, _*_, _-_, _≤_, _<_}
 use native.Mathlib.Omega.{arith}
 use lib.Dec.{eqb}
-use lib.ListN.{length, getD, take, drop, length-append}
-use lib.Seq.{length-take-le}
+use lib.ListN.{length, getD, take, drop}
 use borrow.Author.Tests.{eq-eqb, ne-eqb, eqb-true}
 use Rattle.whole.specs.Every.{every}
 use Rattle.whole.specs.EveryLaws.{Passing, passing-more, passing-fails, passing-all}
-use Rattle.whole.specs.Written.{Written, written-kept, written-front, written-more, written-take, written-all}
 use Rattle.answers.specs.Tests.{Answered}
 use Rattle.answers.specs.TestLaws.{AllPass, all-passed}
 use Rattle.sets.specs.declared.Numbers.{Numbers}
 use Rattle.sets.specs.Good.{Good}
-use Rattle.sets.specs.Limits.{seedBytes, digestBytes}
+use Rattle.sets.specs.Limits.{seedBytes}
 use Rattle.records.specs.Layout.{mark}
+use Rattle.records.specs.Pieces.{standing-kept, standing-mark, standing-copy, standing-take, standing-all}
 use Rattle.records.specs.Secret.{secretRecord, sOf, allE, secretSeedA, secretSeedY, secretG, inByteRange, byteTests, secretTests, readSecretTests, writeSecretTests}
 use Rattle.records.specs.SecretLaws.{s-lent, e-lent}
 use Rattle.records.specs.Asks.{PutsSecret, PutsTail, TakesTail, TakesSecret}
@@ -111,36 +110,11 @@ pub put-tail-is : {set : Numbers} {seedA seedY g old first second third : List �
     → atG ≡ 2 + set .n + set .k * set .n + seedBytes + seedBytes
     → third ≡ take atG second ++ (g ++ drop (atG + length g) second)
     → third ≡ take (2 + set .n + set .k * set .n) old ++ (seedA ++ (seedY ++ g))
-put-tail-is {set} {seedA} {seedY} {g} {old} {first} {second} {third} {at} {atY} {atG} p h a hY b hG c =
-    written-all w₃ whole ∙ regrouped ∙ ap (λ (i : ℕ). take i old ++ (seedA ++ (seedY ++ g))) h
-  where
-    room : 2 + set .n + set .k * set .n + seedBytes + seedBytes + digestBytes ≡ length old
-    room = omega (arith, p .long)
-
-    kept : length (take at old) ≡ at
-    kept = length-take-le at old (omega (arith, room))
-
-    w₁ : Written (take at old ++ seedA) old first
-    w₁ =
-        written-more (written-kept at old (omega (arith, room))) at (length seedA) seedA (sym kept) refl (omega (arith, room, p .seedA-long)) a
-
-    long₁ : length (take at old ++ seedA) ≡ 2 + set .n + set .k * set .n + seedBytes
-    long₁ = length-append (take at old) seedA ∙ ap₂ _+_ (kept ∙ h) (p .seedA-long)
-
-    w₂ : Written ((take at old ++ seedA) ++ seedY) old second
-    w₂ = written-more w₁ atY (length seedY) seedY (hY ∙ sym long₁) refl (omega (arith, room, p .seedY-long)) b
-
-    long₂ : length ((take at old ++ seedA) ++ seedY) ≡ 2 + set .n + set .k * set .n + seedBytes + seedBytes
-    long₂ = length-append (take at old ++ seedA) seedY ∙ ap₂ _+_ long₁ (p .seedY-long)
-
-    w₃ : Written (((take at old ++ seedA) ++ seedY) ++ g) old third
-    w₃ = written-more w₂ atG (length g) g (hG ∙ sym long₂) refl (omega (arith, room, p .g-long)) c
-
-    whole : length (((take at old ++ seedA) ++ seedY) ++ g) ≡ length old
-    whole = length-append ((take at old ++ seedA) ++ seedY) g ∙ ap₂ _+_ long₂ (p .g-long) ∙ room
-
-    regrouped : ((take at old ++ seedA) ++ seedY) ++ g ≡ take at old ++ (seedA ++ (seedY ++ g))
-    regrouped = simp append-assoc
+put-tail-is {set} {seedA} {seedY} {g} {old} p h a hY b hG c =
+    let w₁ = standing-copy (standing-kept (2 + set .n + set .k * set .n) old (omega (arith, p .long))) seedA h (p .seedA-long) (omega (arith, p .long)) a in
+    let w₂ = standing-copy w₁ seedY hY (p .seedY-long) (omega (arith, p .long)) b in
+    let w₃ = standing-copy w₂ g hG (p .g-long) (omega (arith, p .long)) c in
+    standing-all w₃ (omega (arith, p .long)) ∙ simp append-assoc
 
 -- the mark, s, e and the rest one after the other
 pub put-is : {set : Numbers} {s e seedA seedY g old marks first second third : List ℕ} {at : ℕ} → PutsSecret set s e seedA seedY g old
@@ -151,29 +125,10 @@ pub put-is : {set : Numbers} {s e seedA seedY g old marks first second third : L
     → third ≡ take (2 + set .n + set .k * set .n) second ++ (seedA ++ (seedY ++ g))
     → third ≡ secretRecord set s e seedA seedY g
 unfolding secretRecord
-put-is {set} {s} {e} {seedA} {seedY} {g} {old} {marks} {first} {second} {third} {at} p a b h c d =
-    d ∙ ap (λ (l : List ℕ). l ++ (seedA ++ (seedY ++ g))) (written-take w₂ (2 + set .n + set .k * set .n) (sym long₂)) ∙ regrouped
-  where
-    room : 2 + set .n + set .k * set .n ≤ length old
-    room = omega (arith, p .long)
-
-    w₀ : Written (mark set 2) old marks
-    w₀ = written-front 2 refl (omega (arith, room)) a
-
-    w₁ : Written (mark set 2 ++ s) old first
-    w₁ = written-more w₀ 2 (length s) s refl refl (omega (arith, room, p .lengths .s-long)) b
-
-    long₁ : length (mark set 2 ++ s) ≡ 2 + set .n
-    long₁ = length-append (mark set 2) s ∙ ap (λ (n : ℕ). 2 + n) (p .lengths .s-long)
-
-    w₂ : Written ((mark set 2 ++ s) ++ e) old second
-    w₂ = written-more w₁ at (length e) e (h ∙ sym long₁) refl (omega (arith, room, p .lengths .e-long, h)) c
-
-    long₂ : length ((mark set 2 ++ s) ++ e) ≡ 2 + set .n + set .k * set .n
-    long₂ = length-append (mark set 2 ++ s) e ∙ ap₂ _+_ long₁ (p .lengths .e-long)
-
-    regrouped : ((mark set 2 ++ s) ++ e) ++ (seedA ++ (seedY ++ g)) ≡ mark set 2 ++ (s ++ (e ++ (seedA ++ (seedY ++ g))))
-    regrouped = simp append-assoc
+put-is {set} {s} {e} {seedA} {seedY} {g} {old} p a b h c d =
+    let w₁ = standing-copy (standing-mark set 2 old (omega (arith, p .long)) a) s refl (p .lengths .s-long) (omega (arith, p .long)) b in
+    let w₂ = standing-copy w₁ e h (p .lengths .e-long) (omega (arith, p .long)) c in
+    d ∙ ap (λ (l : List ℕ). l ++ (seedA ++ (seedY ++ g))) (standing-take w₂) ∙ simp append-assoc
 
 -- values and a record that pass the tests
 pub write-puts : {set : Numbers} {s e seedA seedY g secret : List ℕ} {number : ℕ} {done : Bool} → Good set

@@ -1,4 +1,5 @@
 pub mod Layout
+pub mod Pieces
 pub mod Public
 pub mod PublicLaws
 pub mod SizeLaws

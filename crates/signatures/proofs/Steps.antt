@@ -8,11 +8,11 @@ use native.Mathlib.Omega.{arith}
 use native.Mathlib.Nat.{add-sub-cancel-left}
 use lib.Dec.{eqb}
 use lib.IntN.{ℤ}
-use lib.ListN.{length, take, drop, length-append, length-drop, length-map}
+use lib.ListN.{length, take, drop, length-drop, length-map}
 use borrow.Author.Tests.{eqb-true}
 use Rattle.whole.specs.Below.{Below}
 use Rattle.whole.specs.Parts.{part-length}
-use Rattle.whole.specs.Written.{Written, written-front, written-more, written-all, written-length, lent-rest, put-rest}
+use Rattle.whole.specs.Written.{written-length, lent-rest, put-rest}
 use Rattle.whole.specs.Every.{every}
 use Rattle.whole.specs.Twos.{signed, twos, twos-all-below}
 use Rattle.answers.specs.Tests.{Answered}
@@ -26,6 +26,7 @@ use Rattle.sets.specs.Good.{Good}
 use Rattle.sets.specs.GoodLaws.{n-few, z-narrow}
 use Rattle.sets.specs.SetI.{setI, good-i}
 use Rattle.records.specs.Layout.{mark, stretch, zBytes}
+use Rattle.records.specs.Pieces.{Standing, standing-mark, standing-next, standing-copy, standing-all}
 use Rattle.signatures.specs.Signature.{signatureRecord, zBitsOf, zOf, challengeOf, zInRange, signatureTests, readSignatureTests, writeSignatureTests}
 use Rattle.signatures.specs.Asks.{RangesBits, LongSignature, ScansZ, UnpacksZ, TakesZ, TakesSignature, WritesPieces, PutsSignature, WritesChecked}
 use Rattle.signatures.specs.Promises.{WritesSignature, ReadsSignature}
@@ -83,14 +84,11 @@ module _ (s : Numbers) (signature : List ℕ) {bits : List ℕ} (e : bits ≡ zB
 -- ---- writing
 
 module _ {s : Numbers} {bits c′ old : List ℕ} (p : WritesPieces s bits c′ old) where
-  packed-long : length (packed (s .«z_bits») bits) ≡ zBytes s
-  packed-long = packed-length (s .«z_bits») bits ∙ ap (bytesFor (s .«z_bits»)) (p .bits-long)
-
   -- the mark stands
-  pub mark-stands : {one : List ℕ} → one ≡ mark s 3 ++ drop 2 old → Written (mark s 3) old one
-  mark-stands e = written-front 2 refl (omega (arith, p .signature-long)) e
+  pub mark-stands : {one : List ℕ} → one ≡ mark s 3 ++ drop 2 old → Standing 2 (mark s 3) old one
+  mark-stands e = standing-mark s 3 old (omega (arith, p .signature-long)) e
 
-  module _ {one : List ℕ} (w : Written (mark s 3) old one) where
+  module _ {one : List ℕ} (w : Standing 2 (mark s 3) old one) where
     pub pack-asked : Packs (s .«z_bits») bits (take (length one - 2) (drop 2 one))
     pack-asked =
         record {
@@ -98,27 +96,24 @@ module _ {s : Numbers} {bits c′ old : List ℕ} (p : WritesPieces s bits c′ 
           narrow = omega (arith, z-narrow (p .good));
           below = p .bits-below;
           few = omega (arith, p .bits-long, n-few (p .good));
-          room = rw (lent-rest, p .bits-long) (omega (arith, length-drop 2 one, written-length w, p .signature-long));
+          room = rw (lent-rest, p .bits-long) (omega (arith, length-drop 2 one, written-length (w .written), p .signature-long));
         }
 
     -- z follows it
     pub z-stands : {ys : List ℕ}
         → ys ≡ packed (s .«z_bits») bits ++ drop (bytesFor (s .«z_bits») (length bits)) (take (length one - 2) (drop 2 one))
-        → Written (mark s 3 ++ packed (s .«z_bits») bits) old (take 2 one ++ (ys ++ drop (length one - 2) (drop 2 one)))
+        → Standing (2 + zBytes s) (mark s 3 ++ packed (s .«z_bits») bits) old (take 2 one ++ (ys ++ drop (length one - 2) (drop 2 one)))
     z-stands e =
-        written-more w 2 (bytesFor (s .«z_bits») (length bits)) (packed (s .«z_bits») bits) refl (packed-length (s .«z_bits») bits)
-        (rw (p .bits-long) (omega (arith, p .signature-long))) (put-rest 2 (bytesFor (s .«z_bits») (length bits)) one (packed (s .«z_bits») bits) e)
+        standing-next w (packed (s .«z_bits») bits) refl (packed-length (s .«z_bits») bits ∙ ap (bytesFor (s .«z_bits»)) (p .bits-long))
+        (omega (arith, p .signature-long))
+        (put-rest 2 (bytesFor (s .«z_bits») (length bits)) one (packed (s .«z_bits») bits) e ∙ rw (p .bits-long))
 
-  module _ {two : List ℕ} {len : ℕ} (w : Written (mark s 3 ++ packed (s .«z_bits») bits) old two) (e : len ≡ zBytes s) where
-    -- and c' is the rest
-    pub all-stands : {three : List ℕ} → three ≡ take (2 + len) two ++ (c′ ++ drop (2 + len + length c′) two) → three ≡ mark s 3 ++ (packed (s .«z_bits») bits ++ c′)
-    all-stands f =
-        written-all (written-more w (2 + len) (length c′) c′ front refl (omega (arith, p .signature-long, p .c-long)) f)
-        (omega (arith, length-append (mark s 3 ++ packed (s .«z_bits») bits) c′, front, p .signature-long, p .c-long))
-        ∙ append-assoc (mark s 3) (packed (s .«z_bits») bits) c′
-      where
-        front : 2 + len ≡ length (mark s 3 ++ packed (s .«z_bits») bits)
-        front = omega (arith, length-append (mark s 3) (packed (s .«z_bits») bits), packed-long)
+  -- and c' is the rest
+  pub all-stands : {two three : List ℕ} {len : ℕ} → Standing (2 + zBytes s) (mark s 3 ++ packed (s .«z_bits») bits) old two → len ≡ zBytes s
+      → three ≡ take (2 + len) two ++ (c′ ++ drop (2 + len + length c′) two) → three ≡ mark s 3 ++ (packed (s .«z_bits») bits ++ c′)
+  all-stands w e f =
+      standing-all (standing-copy w c′ (ap (λ (n : ℕ). 2 + n) e) (p .c-long) (omega (arith, p .signature-long)) f) (omega (arith, p .signature-long))
+      ∙ append-assoc (mark s 3) (packed (s .«z_bits») bits) c′
 
 module _ {s : Numbers} {z : List ℤ} {c′ signature scratch : List ℕ} (p : WritesChecked s z c′ signature scratch) where
   pub z-asked : ToBits (s .«z_bits») z scratch
