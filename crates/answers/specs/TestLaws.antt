@@ -12,7 +12,7 @@ use mathlib.Core.List.{List, [], _∷_, _++_}
 use Prim.Native.Nat.{ℕ, zero, suc, _≤_, _<_, zero-le}
 use native.Mathlib.Omega.{arith}
 use lib.Dec.{eqb, leb, ltb}
-use borrow.Author.Tests.{eqb-true, eqb-false, eq-eqb, ne-eqb, le-leb, leb-true, ltb-true, not-true, not-false}
+use borrow.Author.Tests.{eqb-true, eq-eqb, ne-eqb, le-leb, lt-leb, leb-true, ltb-true, not-true, not-false}
 use Rattle.whole.specs.Every.{every}
 use Rattle.whole.specs.EveryLaws.{both-first, both-second}
 use Rattle.answers.specs.Tests.{Test, _orElse_, answer, after, Answered, Output}
@@ -150,4 +150,4 @@ passes-all (t ∷ ts) n e = go (passes-all ts (both-second (ltb 0 (t .number)) (
 pub all-passed : {ts : List Test} {number : ℕ} {done : Bool} → numbered ts ≡ true → Answered ts number → done ≡ eqb number 0 → done ≡ true → AllPass ts
 all-passed {ts} {number} n a e h = passes-all ts n (sym (a .is) ∙ eqb-true number 0 (sym e ∙ h))
 
-pub ruleset tests = (refused, past, accepted, eq-eqb, ne-eqb, agrees, differs, holds, misses)
+pub ruleset tests = (refused, past, accepted, eq-eqb, ne-eqb, le-leb, lt-leb, agrees, differs, holds, misses)

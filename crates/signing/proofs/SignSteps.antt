@@ -27,7 +27,7 @@ use Rattle.signing.specs.Asks.{SearchesKey}
 
 -- ---- s and e_1..e_k of a secret record
 
-module _ {set : Numbers} {secret : List ℕ} {middle end : ℕ} (a : middle ≡ 2 + set .n) (b : end ≡ 2 + set .n + set .k * set .n) where
+module _ (set : Numbers) (secret : List ℕ) {middle end : ℕ} (a : middle ≡ 2 + set .n) (b : end ≡ 2 + set .n + set .k * set .n) where
   pub secrets-asked : {len : ℕ} → Good set → length secret ≡ len → len ≡ 2 + (set .n + (set .k * set .n + (seedBytes + (seedBytes + 40))))
       → LongE set (take (end - middle) (drop middle secret))
   secrets-asked good e f = record { good = good; e-long = e-lent-long set secret a b (e ∙ f) }
@@ -38,28 +38,28 @@ module _ {set : Numbers} {secret : List ℕ} {middle end : ℕ} (a : middle ≡ 
 
 -- ---- G of the message, and rand
 
-pub hashed : {set : Numbers} {secret r message : List ℕ} {y g : ℕ} → y ≡ 2 + set .n + set .k * set .n + seedBytes
+pub hashed : (set : Numbers) (secret r message : List ℕ) {y g : ℕ} → y ≡ 2 + set .n + set .k * set .n + seedBytes
     → g ≡ 2 + set .n + set .k * set .n + seedBytes + seedBytes
     → {digest rand : List ℕ} → digest ≡ messageDigest set message → rand ≡ randOf set (take (g - y) (drop y secret)) r digest
     → Hashed set secret message r digest rand
 unfolding secretSeedY
-hashed {set} {secret} {y = y} {g = g} d f e h = record { digest-is = e; rand-is = h ∙ rw (e, size, d) }
+hashed set secret r message {y} {g} d f e h = record { digest-is = e; rand-is = h ∙ rw (e, size, d) }
   where
     size : g - y ≡ seedBytes
     size = omega arith
 
 -- ---- what was found is signed
 
-pub sign-found : {set : Numbers} {secret message r : List ℕ} {budget : ℕ} {digest rand old new : List ℕ} {number counter : ℕ}
+pub sign-found : (set : Numbers) (secret message r : List ℕ) (budget : ℕ) {digest rand old new : List ℕ} {number counter : ℕ}
     → Hashed set secret message r digest rand
     → Gives set 0 (search (attempt set (keyOf set secret) digest rand) budget) old new number counter
     → Gives set 0 (signSearch set secret message r budget) old new number counter
 unfolding signSearch
-sign-found h f = rw (h .digest-is, h .rand-is) at f
+sign-found set secret message r budget h f = rw (h .digest-is, h .rand-is) at f
 
 -- ---- the tests' answer
 
-module _ {set : Numbers} {secret message r old : List ℕ} {budget number : ℕ} {done : Bool}
+module _ (set : Numbers) (secret message r old : List ℕ) (budget : ℕ) {number : ℕ} {done : Bool}
     (t : Answered (signTests set secret (length message) (length r) budget (length old)) number) (e : done ≡ eqb number 0) where
   -- a test does not pass
   pub sign-refused : not done ≡ true → Signs set secret message r budget old old number 0
@@ -88,6 +88,6 @@ module _ {set : Numbers} {secret message r old : List ℕ} {budget number : ℕ}
 
 -- ---- set I
 
-pub signs-i : {set : Numbers} {secret message r : List ℕ} {budget : ℕ} {old new : List ℕ} {number counter : ℕ} → set ≡ setI
+pub signs-i : {set : Numbers} (secret message r : List ℕ) (budget : ℕ) (old : List ℕ) {new : List ℕ} {number counter : ℕ} → set ≡ setI
     → Signs set secret message r budget old new number counter → Signs setI secret message r budget old new number counter
-signs-i e s = rw e at s
+signs-i secret message r budget old e s = rw e at s

@@ -1,5 +1,5 @@
 -- `signing::search::search_key` meets its contract: set I is the only set. Assumes nothing.
-use Rattle.signing.proofs.AttemptSteps.{digit-i, no-other}
+use Rattle.sets.specs.Known.{digit-i, no-other}
 use borrow.Author.Needs.{needs}
 use Rattle.signing.proofs.search.search_key.Statement.{statement}
 use Rattle.signing.proofs.search.search_key.Tie as tie
