@@ -1,7 +1,5 @@
-pub mod AnswerLaws
-pub mod Determined
-pub mod HashLaws
-pub mod RecordLaws
+pub mod CheckSteps
+pub mod HashSteps
 pub mod Same
-pub mod StepLaws
-pub mod WorkLaws
+pub mod WSteps
+pub mod WorkSteps
