@@ -1,4 +1,5 @@
 pub mod CheckSteps
+pub mod Determined
 pub mod HashSteps
 pub mod Same
 pub mod WSteps

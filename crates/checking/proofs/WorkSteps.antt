@@ -5,7 +5,7 @@
 --     each-asks, highs-are            the same for c that is drawn from c'
 --     highs-asks, work-answered       the whole
 -- Assumes nothing.
-use mathlib.Core.Path.{_≡_, refl, sym, ap, ap₂, subst, _∙_}
+use mathlib.Core.Path.{_≡_, sym, ap, ap₂, subst, _∙_}
 use mathlib.Core.Bool.{true}
 use mathlib.Core.List.{List}
 use Prim.Native.Nat.{ℕ, _+_, _*_, _-_, _≤_, _<_, zero-le}
@@ -28,7 +28,7 @@ use Rattle.sets.specs.Limits.{seedBytes}
 use Rattle.sets.specs.SetI.{setI, good-i}
 use Rattle.sampling.specs.Positions.{AreDrawn}
 use Rattle.sampling.specs.Streams.{keyDigest, encOf}
-use Rattle.sampling.specs.Residues.{Residues, made-residues}
+use Rattle.sampling.specs.Residues.{made-residues}
 use Rattle.records.specs.Layout.{tBytes, zBytes, publicBytes, signatureBytes}
 use Rattle.records.specs.Public.{tOf, allT, seedAOf, tInRange}
 use Rattle.records.specs.PublicLaws.{tOf-length, allT-polynomial, polynomial-below, tInRange-below}
@@ -107,29 +107,30 @@ pub record Turn (set : Numbers) (public zr ps : List ℕ) (ss : List ℤ) (t : L
   pub walked : Walked set (seedAOf set public) (tOf set public) zr ps ss i walk
   pub t-long : length t ≡ set .n
 
-pub turn-none : {set : Numbers} {public zr ps : List ℕ} {ss : List ℤ} {t : List ℕ} {from : ℕ} {walk : Walk} → Known set → ForEachT set public zr ps ss t
+pub turn-none : {set : Numbers} {public zr ps : List ℕ} {ss : List ℤ} {t : List ℕ} {from : ℕ} {walk : Walk} → ForEachT set public zr ps ss t
     → from ≡ 2 + set .k * tBytes set → Begun set (take (length public - from) (drop from public)) walk → Turn set public zr ps ss t walk 0
-turn-none {set} {public} known asked e b =
+turn-none {set} {public} asked e b =
     record {
       within = zero-le;
-      few = known-good known .k-few;
-      walked = walked-none (rw (seed-is set public e (asked .public-long)) at b);
-      t-long = asked .t-long;
+      few = asked .for-highs .good .k-few;
+      walked = walked-none (rw (seed-is set public e (asked .for-highs .public-long)) at b);
+      t-long = asked .for-highs .t-long;
     }
 
 module _ {set : Numbers} {public zr ps : List ℕ} {ss : List ℤ} {t : List ℕ} {walk : Walk} {i : ℕ}
     (turn : Turn set public zr ps ss t walk i) (l : i < set .k) where
-  pub turn-reads : {t₀ : List ℕ} → Known set → ForEachT set public zr ps ss t₀ → ReadsT set public i t
-  turn-reads known asked = record { good = known-good known; long = asked .public-long; inside = l; room = turn .t-long }
+  pub turn-reads : {t₀ : List ℕ} → ForEachT set public zr ps ss t₀ → ReadsT set public i t
+  turn-reads asked = record { good = asked .for-highs .good; long = asked .for-highs .public-long; inside = l; room = turn .t-long }
 
   module _ {t₁ : List ℕ} (e : t₁ ≡ tOf set public i) where
     t₁-long : length t₁ ≡ set .n
     t₁-long = ap length e ∙ tOf-length set public i
 
-    pub turn-asks : {t₀ : List ℕ} → Known set → ForEachT set public zr ps ss t₀ → ForT set (walk .draw) t₁ zr ps ss
-    turn-asks known asked =
-        walked-asks (turn .walked) l (known-good known) (record { long = t₁-long; below = rw e (t-below set public (asked .t-inside) i l) })
-        (asked .z-is) (asked .c-is)
+    pub turn-asks : {t₀ : List ℕ} → ForEachT set public zr ps ss t₀ → ForT set (walk .draw) t₁ zr ps ss
+    turn-asks asked =
+        walked-asks (turn .walked) l (asked .for-highs .good)
+        (record { long = t₁-long; below = rw e (t-below set public (asked .for-highs .t-inside) i l) })
+        (asked .for-highs .z-is) (asked .c-is)
 
     pub turn-more : {next : Walk} → OneMore set walk t₁ zr ps ss next → Turn set public zr ps ss t₁ next (i + 1)
     turn-more more = record { within = omega arith; few = turn .few; walked = walked-more (turn .walked) l e more; t-long = t₁-long }
@@ -144,14 +145,7 @@ turn-all {set} {public} {zr} {ps} {ss} {walk = walk} turn l =
 
 pub each-asks : {set : Numbers} {public zr t ps : List ℕ} {ss : List ℤ} (c′ : List ℕ) → ForHighs set public zr t → AreDrawn (encOf set c′) ps ss
     → ForEachT set public zr ps ss t
-each-asks c′ asked drawn =
-    record {
-      public-long = asked .public-long;
-      t-inside = asked .t-inside;
-      z-is = asked .z-is;
-      c-is = drawn-challenge c′ (asked .good) drawn;
-      t-long = asked .t-long;
-    }
+each-asks c′ asked drawn = record { for-highs = asked; c-is = drawn-challenge c′ (asked .good) drawn }
 
 pub highs-are : {set : Numbers} (public c′ zr : List ℕ) {ps : List ℕ} {ss : List ℤ} {highs : Highs} → AreDrawn (encOf set c′) ps ss
     → Held set (highsUpto set (seedAOf set public) (tOf set public) zr ps ss (set .k)) highs → Held set (highsOfRecord set public zr c′) highs

@@ -55,15 +55,7 @@ pub record Tested (set : Numbers) (public signature : List ℕ) : Type 0 where
   pub t-inside : tInRange set (allT set public) ≡ true
   pub z-inside : zInRange set (zOf set signature) ≡ true
 
--- what `each_t` asks: a public record whose t_1..t_k are in range, z modulo q, c, and a place for one t_i
-pub record ForEachT (set : Numbers) (public zr ps : List ℕ) (ss : List ℤ) (t : List ℕ) : Type 0 where
-  pub public-long : length public ≡ publicBytes set
-  pub t-inside : tInRange set (allT set public) ≡ true
-  pub z-is : Residues set zr
-  pub c-is : Challenge set ps ss
-  pub t-long : length t ≡ set .n
-
--- what `highs_of` asks: the same without c
+-- what `highs_of` asks: a public record whose t_1..t_k are in range, z modulo q, and a place for one t_i
 pub record ForHighs (set : Numbers) (public zr t : List ℕ) : Type 0 where
   pub good : Good set
   pub public-long : length public ≡ publicBytes set
@@ -76,6 +68,11 @@ pub record ForHighsIn (set : Numbers) (public zr positions : List ℕ) (signs : 
   pub for-highs : ForHighs set public zr t
   pub positions-long : length positions ≡ set .h
   pub signs-long : length signs ≡ set .h
+
+-- what `each_t` asks: the same with c
+pub record ForEachT (set : Numbers) (public zr ps : List ℕ) (ss : List ℤ) (t : List ℕ) : Type 0 where
+  pub for-highs : ForHighs set public zr t
+  pub c-is : Challenge set ps ss
 
 -- what `z_residues` asks: a tested signature record, and a place for z's residues
 pub record ForResidues (set : Numbers) (signature zr : List ℕ) : Type 0 where

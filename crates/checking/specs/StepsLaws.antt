@@ -9,7 +9,7 @@ use Prim.Native.Nat.{ℕ, _+_, _<_}
 use native.Mathlib.Numerals.{add-one}
 use native.Mathlib.Omega.{arith}
 use lib.IntN.{ℤ}
-use lib.ListN.{length, take, length-map}
+use lib.ListN.{take, length-map}
 use Rattle.whole.specs.Residue.{residue-eq, same-refl, same-minus}
 use Rattle.whole.specs.Table.{joined, joined-ext, table-ext}
 use Rattle.answers.specs.Tests.{Answered}

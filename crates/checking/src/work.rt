@@ -1,5 +1,4 @@
 // Checking after the tests of its inputs: z modulo q, c from c', t_1..t_k from the public record, and the hash.
-use crate::hash::Walk;
 use crate::hash::add_t;
 use crate::hash::begin;
 use crate::hash::judge;
@@ -18,7 +17,7 @@ ghost use Rattle.sets.specs.SetI.{setI};
 ghost use Rattle.records.specs.Public.{tOf, seedAOf};
 ghost use Rattle.signatures.specs.Signature.{zOf};
 ghost use Rattle.highs.specs.Highs.{Held};
-ghost use Rattle.checking.specs.Asks.{ForResidues, ForResiduesIn, ForG, ForEachT, ForHighs, ForHighsIn, Tested, ForWork};
+ghost use Rattle.checking.specs.Asks.{ForResidues, ForResiduesIn, ForG, ForHighs, ForHighsIn, ForEachT, Tested, ForWork};
 ghost use Rattle.checking.specs.Check.{publicG, workTests};
 ghost use Rattle.checking.specs.Steps.{highsUpto, highsOfRecord};
 

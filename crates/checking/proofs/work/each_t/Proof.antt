@@ -1,7 +1,6 @@
 -- `checking::work::each_t` meets its contract. The loop's invariant: the high parts of w_1..w_i are held, and t has its length. The measure is the number of t_i left. Assumes nothing.
 use borrow.Author.Needs.{needs}
 use Prim.Native.Nat.{_-_}
-use Rattle.sets.specs.Known.{known-good}
 use Rattle.checking.proofs.WorkSteps.{Turn, turn-none, turn-reads, turn-asks, turn-more, turn-all}
 use Rattle.checking.proofs.work.each_t.Statement.{statement}
 use Rattle.checking.proofs.work.each_t.Tie as tie
@@ -18,11 +17,11 @@ each-t-spec =
     (tie.spec
     Inv-loop
     μ-loop
-    (λ c κs. search (known-good, needs))
+    (λ c κs. search needs)
     (λ c. search needs)
     (λ c. search needs)
     (λ c. search needs)
-    (λ c κs. search (known-good, needs))
+    (λ c κs. search needs)
     (λ c. search (turn-none, needs))
     (λ c κs. search (turn-reads, needs))
     (λ c κs. search (turn-asks, needs))
