@@ -3,6 +3,7 @@
 --     answer-first, answer-rest     where the answer is 0 the first test passes, and so do the others
 --     answer-before, answer-past    a refusal is the answer, whatever follows it; where tests pass, what follows them decides
 --     after-done, after-refused, after-other      an output after the answer 0, and after any other
+--     before, beyond                what a function answers that makes the tests of another first
 --     tests                         the laws by which `search` proves what a function answers that makes its tests one after another
 --     outputs                       and what it leaves in its outputs
 -- Assumes nothing.
@@ -12,7 +13,7 @@ use mathlib.Core.List.{List, [], _∷_, _++_}
 use Prim.Native.Nat.{ℕ, zero, suc, _≤_, _<_, zero-le}
 use native.Mathlib.Omega.{arith}
 use lib.Dec.{eqb, leb, ltb}
-use borrow.Author.Tests.{eqb-true, eq-eqb, ne-eqb, le-leb, lt-leb, leb-true, ltb-true, not-true, not-false}
+use borrow.Author.Tests.{eqb-true, eqb-false, eq-eqb, ne-eqb, le-leb, lt-leb, leb-true, ltb-true, not-true, not-false}
 use Rattle.whole.specs.Every.{every}
 use Rattle.whole.specs.EveryLaws.{both-first, both-second}
 use Rattle.answers.specs.Tests.{Test, _orElse_, answer, after, Answered, Output}
@@ -149,5 +150,21 @@ passes-all (t ∷ ts) n e = go (passes-all ts (both-second (ltb 0 (t .number)) (
 -- the same of the number that a function answered, where it is 0
 pub all-passed : {ts : List Test} {number : ℕ} {done : Bool} → numbered ts ≡ true → Answered ts number → done ≡ eqb number 0 → done ≡ true → AllPass ts
 all-passed {ts} {number} n a e h = passes-all ts n (sym (a .is) ∙ eqb-true number 0 (sym e ∙ h))
+
+-- ---- the tests of one function, then those of another
+
+module _ {xs : List Test} {m : ℕ} {done : Bool} (ys : List Test) (a : Answered xs m) (e : done ≡ eqb m 0) where
+  -- a refusal of the first tests is the answer
+  pub before : not done ≡ true → Answered (xs ++ ys) m
+  before h = record { is = sym (go m (a .is) (eqb-false m 0 (sym e ∙ not-true done h))) }
+    where
+      go : (n : ℕ) → n ≡ answer xs → (n ≡ 0 → ⊥) → answer (xs ++ ys) ≡ n
+      go zero f k = absurd (k refl)
+      go (suc n) f k = answer-before n xs ys (sym f)
+
+  -- where they pass, the others decide
+  pub beyond : {n : ℕ} → numbered xs ≡ true → not done ≡ false → Answered ys n → Answered (xs ++ ys) n
+  beyond i h b =
+      record { is = b .is ∙ sym (answer-past xs ys i (sym (a .is) ∙ eqb-true m 0 (sym e ∙ not-false done h))) }
 
 pub ruleset tests = (refused, past, accepted, eq-eqb, ne-eqb, le-leb, lt-leb, agrees, differs, holds, misses)

@@ -1,7 +1,6 @@
-pub mod AnswerLaws
+pub mod CheckSteps
 pub mod Determined
-pub mod HashLaws
-pub mod RecordLaws
+pub mod HashSteps
 pub mod Same
-pub mod StepLaws
-pub mod WorkLaws
+pub mod WSteps
+pub mod WorkSteps

@@ -1,14 +1,13 @@
 -- Two lists of bytes compared from the front.
---     same-unlike     lists of different lengths differ
---     same-step       where the bytes at i are equal, what is left to compare is what follows them
---     same-differ     where they are not, the lists differ
---     same-end        past the end nothing is left
+--     unlike        lists of different lengths differ
+--     Comparing     lists of one length, where what is left to compare decides
 -- Assumes nothing.
-use mathlib.Core.Path.{_≡_, refl, ap, _∙_}
+use mathlib.Core.Path.{_≡_, refl, sym, ap, _∙_}
 use mathlib.Core.Bool.{true, false, _&&_}
 use mathlib.Core.List.{List, [], _∷_}
 use Prim.Native.Nat.{ℕ, suc, _+_, _≤_, _<_}
 use native.Mathlib.Numerals.{add-one}
+use native.Mathlib.Omega.{arith}
 use lib.Dec.{eqb}
 use lib.ListN.{length, getD, drop, drop-of-length-le}
 use lib.Seq.{drop-cons}
@@ -16,24 +15,37 @@ use borrow.Author.Tests.{eq-eqb, ne-eqb}
 use Rattle.whole.specs.Every.{sameBytes}
 use Rattle.whole.specs.EveryLaws.{not-second}
 
-pub same-unlike : (xs ys : List ℕ) → (length xs ≡ length ys → ⊥) → sameBytes xs ys ≡ false
+pub unlike : (xs ys : List ℕ) → (length xs ≡ length ys → ⊥) → false ≡ sameBytes xs ys
 unfolding sameBytes
-same-unlike [] [] h = absurd (h refl)
-same-unlike [] (y ∷ ys) h = refl
-same-unlike (x ∷ xs) [] h = refl
-same-unlike (x ∷ xs) (y ∷ ys) h = not-second (eqb x y) (same-unlike xs ys (λ e. h (ap suc e)))
+unlike [] [] h = absurd (h refl)
+unlike [] (y ∷ ys) h = refl
+unlike (x ∷ xs) [] h = refl
+unlike (x ∷ xs) (y ∷ ys) h = sym (not-second (eqb x y) (sym (unlike xs ys (λ e. h (ap suc e)))))
 
-module _ (xs ys : List ℕ) (i : ℕ) (l : i < length xs) (m : i < length ys) where
-  split : sameBytes (drop i xs) (drop i ys) ≡ (eqb (getD xs i 0) (getD ys i 0) && sameBytes (drop (i + 1) xs) (drop (i + 1) ys))
+-- after the bytes below i
+pub record Comparing (xs ys : List ℕ) (i : ℕ) : Type 0 where
+  pub even : length xs ≡ length ys
+  pub left : sameBytes xs ys ≡ sameBytes (drop i xs) (drop i ys)
+
+pub comparing-none : {xs ys : List ℕ} → length xs ≡ length ys → Comparing xs ys 0
+comparing-none e = record { even = e; left = refl }
+
+module _ {xs ys : List ℕ} {i : ℕ} (c : Comparing xs ys i) where
+  -- the bytes at i, then what follows them
+  split : i < length xs → sameBytes xs ys ≡ (eqb (getD xs i 0) (getD ys i 0) && sameBytes (drop (i + 1) xs) (drop (i + 1) ys))
   unfolding sameBytes
-  split = rw (add-one, drop-cons xs i 0 l, drop-cons ys i 0 m)
+  split l =
+      let m : i < length ys = omega (arith, c .even) in
+      c .left ∙ rw (add-one, drop-cons xs i 0 l, drop-cons ys i 0 m)
 
-  pub same-step : getD xs i 0 ≡ getD ys i 0 → sameBytes (drop i xs) (drop i ys) ≡ sameBytes (drop (i + 1) xs) (drop (i + 1) ys)
-  same-step e = split ∙ rw (eq-eqb (getD xs i 0) (getD ys i 0) e)
+  pub comparing-more : i < length xs → getD xs i 0 ≡ getD ys i 0 → Comparing xs ys (i + 1)
+  comparing-more l e = record { even = c .even; left = split l ∙ rw (eq-eqb (getD xs i 0) (getD ys i 0) e) }
 
-  pub same-differ : (getD xs i 0 ≡ getD ys i 0 → ⊥) → sameBytes (drop i xs) (drop i ys) ≡ false
-  same-differ h = split ∙ rw (ne-eqb (getD xs i 0) (getD ys i 0) h)
+  pub comparing-differs : i < length xs → (getD xs i 0 ≡ getD ys i 0 → ⊥) → false ≡ sameBytes xs ys
+  comparing-differs l h = sym (split l ∙ rw (ne-eqb (getD xs i 0) (getD ys i 0) h))
 
-pub same-end : (xs ys : List ℕ) (i : ℕ) → length xs ≤ i → length ys ≤ i → sameBytes (drop i xs) (drop i ys) ≡ true
-unfolding sameBytes
-same-end xs ys i l m = rw (drop-of-length-le xs l, drop-of-length-le ys m)
+  pub comparing-all : length xs ≤ i → true ≡ sameBytes xs ys
+  unfolding sameBytes
+  comparing-all l =
+      let m : length ys ≤ i = omega (arith, c .even) in
+      sym (c .left ∙ rw (drop-of-length-le xs l, drop-of-length-le ys m))

@@ -23,15 +23,14 @@ pub record Challenge (set : Numbers) (ps : List ℕ) (ss : List ℤ) : Type 0 wh
   -- a coefficient's sum fits the machine's word
   pub few : length ps < 2 ^ 16
 
--- what `one_w` asks: a, t and z modulo q, c, and places for w and for t c
-pub record ForW (set : Numbers) (a t zr ps : List ℕ) (ss : List ℤ) (w tc : List ℕ) : Type 0 where
+-- what `one_w` asks: t and z modulo q, c, a, and a place for w
+pub record ForW (set : Numbers) (t zr ps : List ℕ) (ss : List ℤ) (a w : List ℕ) : Type 0 where
   pub good : Good set
-  pub a-is : Residues set a
   pub t-is : Residues set t
   pub z-is : Residues set zr
   pub c-is : Challenge set ps ss
+  pub a-is : Residues set a
   pub w-long : length w ≡ set .n
-  pub tc-long : length tc ≡ set .n
 
 -- what `add_t` asks: t_i and z modulo q, c, and a stream that still has a_i
 pub record ForT (set : Numbers) (draw : DrawA) (t zr ps : List ℕ) (ss : List ℤ) : Type 0 where
@@ -41,12 +40,11 @@ pub record ForT (set : Numbers) (draw : DrawA) (t zr ps : List ℕ) (ss : List �
   pub z-is : Residues set zr
   pub c-is : Challenge set ps ss
 
--- and places for a_i, w_i and t_i c
-pub record ForTIn (set : Numbers) (draw : DrawA) (t zr ps : List ℕ) (ss : List ℤ) (a w tc : List ℕ) : Type 0 where
+-- and places for a_i and w_i
+pub record ForTIn (set : Numbers) (draw : DrawA) (t zr ps : List ℕ) (ss : List ℤ) (a w : List ℕ) : Type 0 where
   pub for-t : ForT set draw t zr ps ss
   pub a-long : length a ≡ set .n
   pub w-long : length w ≡ set .n
-  pub tc-long : length tc ≡ set .n
 
 -- ---- after the tests of the inputs
 
@@ -57,20 +55,24 @@ pub record Tested (set : Numbers) (public signature : List ℕ) : Type 0 where
   pub t-inside : tInRange set (allT set public) ≡ true
   pub z-inside : zInRange set (zOf set signature) ≡ true
 
--- what `each_t` asks: a public record whose t_1..t_k are in range, z modulo q, c, and a place for one t_i
-pub record ForEachT (set : Numbers) (public zr ps : List ℕ) (ss : List ℤ) (t : List ℕ) : Type 0 where
+-- what `highs_of` asks: a public record whose t_1..t_k are in range, z modulo q, and a place for one t_i
+pub record ForHighs (set : Numbers) (public zr t : List ℕ) : Type 0 where
+  pub good : Good set
   pub public-long : length public ≡ publicBytes set
   pub t-inside : tInRange set (allT set public) ≡ true
   pub z-is : Residues set zr
-  pub c-is : Challenge set ps ss
   pub t-long : length t ≡ set .n
 
--- what `highs_of` asks: the same without c
-pub record ForHighs (set : Numbers) (public zr t : List ℕ) : Type 0 where
-  pub public-long : length public ≡ publicBytes set
-  pub t-inside : tInRange set (allT set public) ≡ true
-  pub z-is : Residues set zr
-  pub t-long : length t ≡ set .n
+-- and places for c
+pub record ForHighsIn (set : Numbers) (public zr positions : List ℕ) (signs : List ℤ) (t : List ℕ) : Type 0 where
+  pub for-highs : ForHighs set public zr t
+  pub positions-long : length positions ≡ set .h
+  pub signs-long : length signs ≡ set .h
+
+-- what `each_t` asks: the same with c
+pub record ForEachT (set : Numbers) (public zr ps : List ℕ) (ss : List ℤ) (t : List ℕ) : Type 0 where
+  pub for-highs : ForHighs set public zr t
+  pub c-is : Challenge set ps ss
 
 -- what `z_residues` asks: a tested signature record, and a place for z's residues
 pub record ForResidues (set : Numbers) (signature zr : List ℕ) : Type 0 where

@@ -46,18 +46,26 @@ inputTests set public messageLength signature =
     ∷ (zInRange set (zOf set signature) orElse 9)
     ∷ []
 
--- those of the hash, over seed_a, t_1..t_k, g, G of the message, z and c'
-unfoldable pub hashTests : Numbers → List ℕ → (ℕ → List ℕ) → List ℕ → List ℕ → List ℤ → List ℕ → List Test
-hashTests set seedA t g digest z c′ =
-    (every fitsByte (checkHighs set seedA t z c′) orElse 10)
-    ∷ (sameBytes (challenge set (checkHighs set seedA t z c′) digest g) c′ orElse 11)
+-- those of the high parts of w_1..w_k, over them, G of the message, g and c'
+unfoldable pub highTests : Numbers → List ℤ → List ℕ → List ℕ → List ℕ → List Test
+highTests set parts digest g c′ =
+    (every fitsByte parts orElse 10)
+    ∷ (sameBytes (challenge set parts digest g) c′ orElse 11)
     ∷ []
+
+-- the same over seed_a, t_1..t_k, g, G of the message, z and c'
+unfoldable pub hashTests : Numbers → List ℕ → (ℕ → List ℕ) → List ℕ → List ℕ → List ℤ → List ℕ → List Test
+hashTests set seedA t g digest z c′ = highTests set (checkHighs set seedA t z c′) digest g c′
+
+-- the same over the two records and G of the message
+unfoldable pub workTests : Numbers → List ℕ → List ℕ → List ℕ → List Test
+workTests set public digest signature =
+    hashTests set (seedAOf set public) (tOf set public) (publicG set public) digest (zOf set signature) (challengeOf set signature)
 
 -- checking a message, by its length and G of it
 unfoldable pub digestTests : Numbers → List ℕ → ℕ → List ℕ → List ℕ → List Test
 digestTests set public messageLength digest signature =
-    inputTests set public messageLength signature
-    ++ hashTests set (seedAOf set public) (tOf set public) (publicG set public) digest (zOf set signature) (challengeOf set signature)
+    inputTests set public messageLength signature ++ workTests set public digest signature
 
 unfoldable pub checkTests : Numbers → List ℕ → List ℕ → List ℕ → List Test
 checkTests set public message signature = digestTests set public (length message) (messageDigest set message) signature

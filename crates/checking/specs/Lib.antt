@@ -1,3 +1,4 @@
 pub mod Check
 pub mod Steps
+pub mod StepsLaws
 pub mod Asks

@@ -13,7 +13,7 @@ ghost use Rattle.sets.specs.Good.{Good};
 ghost use Rattle.sets.specs.Known.{Known};
 ghost use Rattle.sets.specs.SetI.{setI};
 ghost use Rattle.checking.specs.Asks.{ForW, ForT, ForTIn};
-ghost use Rattle.checking.specs.Steps.{wFrom, Begun, OneMore, Judged};
+ghost use Rattle.checking.specs.Steps.{IsW, Begun, OneMore, Judged};
 
 // The receiver on its way through t_1..t_k.
 pub struct Walk {
@@ -34,26 +34,25 @@ pub fn begin(set: Numbers, seed_a: &[u8]) -> Walk
     }
 }
 
-// w = a z − t c modulo q, where zr holds z modulo q. tc takes t c.
+// w = a z − t c modulo q, where zr holds z modulo q. a holds a, and takes t c.
 fn one_w(
     set: Numbers,
-    a: &[u32],
     t: &[u32],
     zr: &[u32],
     positions: &[u16],
     signs: &[i8],
+    a: &mut [u32],
     w: &mut [u32],
-    tc: &mut [u32],
 )
-    requires { ⌜ ForW set (now a) (now t) (now zr) (now positions) (now signs) (now w) (now tc) ⌝ }
-    ensures { λ _. ⌜ now (w .exit) ≡ wFrom set (now (a .entry)) (now (t .entry)) (now (zr .entry)) (now (positions .entry)) (now (signs .entry)) ⌝ }
+    requires { ⌜ ForW set (now t) (now zr) (now positions) (now signs) (now a) (now w) ⌝ }
+    ensures { λ _. ⌜ IsW set (now (a .entry)) (now (t .entry)) (now (zr .entry)) (now (positions .entry)) (now (signs .entry)) (now (w .exit)) ⌝ }
 {
     ring::product::multiply(a, zr, set.q, w);
-    ring::sparse::times(t, set.q, positions, signs, tc);
-    ring::sums::subtract(w, tc, set.q);
+    ring::sparse::times(t, set.q, positions, signs, a);
+    ring::sums::subtract(w, a, set.q);
 }
 
-// The next t_i: t holds it, and zr holds z modulo q. a, w and tc take its a_i, its w_i and t_i c.
+// The next t_i: t holds it, and zr holds z modulo q. a takes its a_i, w its w_i.
 fn add_t_in(
     set: Numbers,
     walk: Walk,
@@ -63,16 +62,15 @@ fn add_t_in(
     signs: &[i8],
     a: &mut [u32],
     w: &mut [u32],
-    tc: &mut [u32],
 ) -> Walk
     requires { ⌜ Known set ⌝ }
-    requires { ⌜ ForTIn set (walk .draw) (now t) (now zr) (now positions) (now signs) (now a) (now w) (now tc) ⌝ }
+    requires { ⌜ ForTIn set (walk .draw) (now t) (now zr) (now positions) (now signs) (now a) (now w) ⌝ }
     ensures { λ r. ⌜ OneMore set walk (now (t .entry)) (now (zr .entry)) (now (positions .entry)) (now (signs .entry)) r ⌝ }
 {
     let before = walk.draw;
     let highs = walk.highs;
     let draw = sampling::drawn::next_a(set, before, a);
-    one_w(set, a, t, zr, positions, signs, w, tc);
+    one_w(set, t, zr, positions, signs, a, w);
     Walk {
         draw,
         highs: highs::add_highs(set, highs, w),
@@ -80,32 +78,14 @@ fn add_t_in(
 }
 
 // The same in set I: makes the scratch.
-fn add_t_i(
-    set: Numbers,
-    walk: Walk,
-    t: &[u32],
-    zr: &[u32],
-    positions: &[u16],
-    signs: &[i8],
-) -> Walk
+fn add_t_i(set: Numbers, walk: Walk, t: &[u32], zr: &[u32], positions: &[u16], signs: &[i8]) -> Walk
     requires { ⌜ set ≡ setI ⌝ }
     requires { ⌜ ForT set (walk .draw) (now t) (now zr) (now positions) (now signs) ⌝ }
     ensures { λ r. ⌜ OneMore set walk (now (t .entry)) (now (zr .entry)) (now (positions .entry)) (now (signs .entry)) r ⌝ }
 {
     let mut a = [0u32; SetI::N];
     let mut w = [0u32; SetI::N];
-    let mut tc = [0u32; SetI::N];
-    add_t_in(
-        set,
-        walk,
-        t,
-        zr,
-        positions,
-        signs,
-        &mut a,
-        &mut w,
-        &mut tc,
-    )
+    add_t_in(set, walk, t, zr, positions, signs, &mut a, &mut w)
 }
 
 // The same in every set that there is.

@@ -1,5 +1,4 @@
 // Checking after the tests of its inputs: z modulo q, c from c', t_1..t_k from the public record, and the hash.
-use crate::hash::Walk;
 use crate::hash::add_t;
 use crate::hash::begin;
 use crate::hash::judge;
@@ -15,13 +14,11 @@ ghost use Rattle.answers.specs.Tests.{Answered};
 ghost use Rattle.ring.specs.Lists.{integers, residues};
 ghost use Rattle.sets.specs.Known.{Known};
 ghost use Rattle.sets.specs.SetI.{setI};
-ghost use Rattle.sampling.specs.Positions.{positionsOf, signsOf};
-ghost use Rattle.sampling.specs.Streams.{encOf};
 ghost use Rattle.records.specs.Public.{tOf, seedAOf};
-ghost use Rattle.signatures.specs.Signature.{zOf, challengeOf};
+ghost use Rattle.signatures.specs.Signature.{zOf};
 ghost use Rattle.highs.specs.Highs.{Held};
-ghost use Rattle.checking.specs.Asks.{ForResidues, ForResiduesIn, ForG, ForEachT, ForHighs, Tested, ForWork};
-ghost use Rattle.checking.specs.Check.{publicG, hashTests};
+ghost use Rattle.checking.specs.Asks.{ForResidues, ForResiduesIn, ForG, ForHighs, ForHighsIn, ForEachT, Tested, ForWork};
+ghost use Rattle.checking.specs.Check.{publicG, workTests};
 ghost use Rattle.checking.specs.Steps.{highsUpto, highsOfRecord};
 
 // zr = z of a tested signature record modulo q. z takes z itself.
@@ -91,7 +88,25 @@ fn each_t(
     walk.highs
 }
 
-// The same for c = Enc(c'). Makes the places for c.
+// The same for c = Enc(c'). positions and signs take c.
+fn highs_of_in(
+    set: Numbers,
+    public: &[u8],
+    zr: &[u32],
+    c: &[u8],
+    positions: &mut [u16],
+    signs: &mut [i8],
+    t: &mut [u32],
+) -> Highs
+    requires { ⌜ Known set ⌝ }
+    requires { ⌜ ForHighsIn set (now public) (now zr) (now positions) (now signs) (now t) ⌝ }
+    ensures { λ r. ⌜ Held set (highsOfRecord set (now (public .entry)) (now (zr .entry)) (now (c .entry))) r ⌝ }
+{
+    sampling::drawn::draw_enc(set, c, positions, signs);
+    each_t(set, public, zr, positions, signs, t)
+}
+
+// The same. Makes the places for c.
 fn highs_of(set: Numbers, public: &[u8], zr: &[u32], c: &[u8], t: &mut [u32]) -> Highs
     requires { ⌜ Known set ⌝ }
     requires { ⌜ ForHighs set (now public) (now zr) (now t) ⌝ }
@@ -100,8 +115,7 @@ fn highs_of(set: Numbers, public: &[u8], zr: &[u32], c: &[u8], t: &mut [u32]) ->
     let h = set.h;
     let mut positions = [0u16; 256];
     let mut signs = [0i8; 256];
-    sampling::drawn::draw_enc(set, c, &mut positions[..h], &mut signs[..h]);
-    each_t(set, public, zr, &positions[..h], &signs[..h], t)
+    highs_of_in(set, public, zr, c, &mut positions[..h], &mut signs[..h], t)
 }
 
 // The tests 10 and 11 of a signature, where the records' own tests have passed, for a message with this digest. zr takes z modulo q, t
@@ -116,7 +130,7 @@ fn check_hash_in(
 ) -> Answer
     requires { ⌜ Known set ⌝ }
     requires { ⌜ ForWork set (now public) (now signature) (now zr) (now t) ⌝ }
-    ensures { λ r. ⌜ Answered (hashTests set (seedAOf set (now (public .entry))) (tOf set (now (public .entry))) (publicG set (now (public .entry))) (now (digest .entry)) (zOf set (now (signature .entry))) (challengeOf set (now (signature .entry)))) (numberOf r) ⌝ }
+    ensures { λ r. ⌜ Answered (workTests set (now (public .entry)) (now (digest .entry)) (now (signature .entry))) (numberOf r) ⌝ }
 {
     let from = signatures::signature_bytes(set) - SEED_BYTES;
     let c = &signature[from..];
@@ -136,7 +150,7 @@ fn check_hash_i(
 ) -> Answer
     requires { ⌜ set ≡ setI ⌝ }
     requires { ⌜ Tested set (now public) (now signature) ⌝ }
-    ensures { λ r. ⌜ Answered (hashTests set (seedAOf set (now (public .entry))) (tOf set (now (public .entry))) (publicG set (now (public .entry))) (now (digest .entry)) (zOf set (now (signature .entry))) (challengeOf set (now (signature .entry)))) (numberOf r) ⌝ }
+    ensures { λ r. ⌜ Answered (workTests set (now (public .entry)) (now (digest .entry)) (now (signature .entry))) (numberOf r) ⌝ }
 {
     let mut zr = [0u32; SetI::N];
     let mut t = [0u32; SetI::N];
@@ -152,7 +166,7 @@ pub fn check_hash(
 ) -> Answer
     requires { ⌜ Known set ⌝ }
     requires { ⌜ Tested set (now public) (now signature) ⌝ }
-    ensures { λ r. ⌜ Answered (hashTests set (seedAOf set (now (public .entry))) (tOf set (now (public .entry))) (publicG set (now (public .entry))) (now (digest .entry)) (zOf set (now (signature .entry))) (challengeOf set (now (signature .entry)))) (numberOf r) ⌝ }
+    ensures { λ r. ⌜ Answered (workTests set (now (public .entry)) (now (digest .entry)) (now (signature .entry))) (numberOf r) ⌝ }
 {
     let digit = set.digit;
     match digit {
