@@ -1,5 +1,5 @@
 -- The steps of the core: one w_i more, with its scratch, and the last two tests.
---     w-asks, one-more       the next w_i
+--     w-asks, one-more                  the next w_i
 --     places-i                          its scratch in set I
 --     judged-high, judged-differs, judged-accepts      the answers 10, 11 and 0
 -- Assumes nothing.

@@ -3,7 +3,7 @@
 --     g-is, seed-is                   g and seed_a of a public record
 --     Turn, turn-none, turn-reads, turn-asks, turn-more, turn-all      the loop over t_1..t_k of a public record
 --     each-asks, highs-are            the same for c that is drawn from c'
---     highs-asks, work-answered       the whole
+--     highs-asks, work-answered, work-i      the whole
 -- Assumes nothing.
 use mathlib.Core.Path.{_≡_, sym, ap, ap₂, subst, _∙_}
 use mathlib.Core.Bool.{true}
@@ -166,21 +166,21 @@ module _ {set : Numbers} {public signature zr₀ t : List ℕ} (known : Known se
       }
 
   pub work-answered : {bytes : ℕ} {highs : Highs} {digest g : List ℕ} {number : ℕ} → bytes ≡ signatureBytes set
-      → Held set (highsOfRecord set public zr (take (length signature - (bytes - 32)) (drop (bytes - 32) signature))) highs
-      → g ≡ publicG set public → Judged set highs digest g (take (length signature - (bytes - 32)) (drop (bytes - 32) signature)) number
+      → Held set (highsOfRecord set public zr (take (length signature - (bytes - seedBytes)) (drop (bytes - seedBytes) signature))) highs
+      → g ≡ publicG set public → Judged set highs digest g (take (length signature - (bytes - seedBytes)) (drop (bytes - seedBytes) signature)) number
       → Answered (workTests set public digest signature) number
   unfolding workTests challengeOf
   work-answered {bytes} {highs} {digest} {g} {number} b held f judged =
       hash-answered (seedAOf set public) (tOf set public) (zOf set signature) (known-good known) e (rw challenge at held)
       (rw (f, challenge) at judged)
     where
-      from : bytes - 32 ≡ 2 + zBytes set
+      from : bytes - seedBytes ≡ 2 + zBytes set
       from = omega (arith, b)
 
-      long : length signature - (bytes - 32) ≡ seedBytes
+      long : length signature - (bytes - seedBytes) ≡ seedBytes
       long = omega (arith, b, asked .tested .signature-long)
 
-      challenge : take (length signature - (bytes - 32)) (drop (bytes - 32) signature) ≡ challengeOf set signature
+      challenge : take (length signature - (bytes - seedBytes)) (drop (bytes - seedBytes) signature) ≡ challengeOf set signature
       challenge = ap₂ (λ m i. take m (drop i signature)) long from
 
 pub work-i : {set : Numbers} {public signature zr t : List ℕ} → set ≡ setI → Tested set public signature → length zr ≡ 1024 → length t ≡ 1024

@@ -1,4 +1,5 @@
--- `checking::hash::same_bytes` meets its contract. The loop's invariant: what is left to compare decides. The measure is the number of bytes left. Assumes nothing.
+-- `checking::hash::same_bytes` meets its contract. The loop's invariant: what is left to compare decides. The
+-- measure is the number of bytes left. Assumes nothing.
 use borrow.Author.Needs.{needs}
 use Prim.Native.Nat.{_-_}
 use lib.ListN.{length}

@@ -1,4 +1,5 @@
--- `checking::work::each_t` meets its contract. The loop's invariant: the high parts of w_1..w_i are held, and t has its length. The measure is the number of t_i left. Assumes nothing.
+-- `checking::work::each_t` meets its contract. The loop's invariant: the high parts of w_1..w_i are held, and t has
+-- its length. The measure is the number of t_i left. Assumes nothing.
 use borrow.Author.Needs.{needs}
 use Prim.Native.Nat.{_-_}
 use Rattle.checking.proofs.WorkSteps.{Turn, turn-none, turn-reads, turn-asks, turn-more, turn-all}
