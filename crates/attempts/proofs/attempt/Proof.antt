@@ -4,17 +4,5 @@ use borrow.Author.Needs.{needs}
 use Rattle.attempts.proofs.attempt.Statement.{statement}
 use Rattle.attempts.proofs.attempt.Tie as tie
 
-attempt-i-requires : tie.Need-attempt-i-requires
-attempt-i-requires c κs = search (digit-i, needs)
-
-same-length : tie.Need-same-length
-same-length c = search needs
-
-returns : tie.Need-returns
-returns c = search needs
-
-returns-2 : tie.Need-returns-2
-returns-2 c = absurd (search (no-other, needs))
-
 pub attempt-spec : {M : Type 1} → statement M
-attempt-spec = tie.close (tie.spec attempt-i-requires same-length returns returns-2)
+attempt-spec = tie.close (tie.spec (λ c κs. search (digit-i, needs)) (λ c. search needs) (λ c. search needs) (λ c. absurd (search (no-other, needs))))

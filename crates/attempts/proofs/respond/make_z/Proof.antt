@@ -10,17 +10,11 @@ use Rattle.attempts.proofs.respond.make_z.Tie as tie
 bytes : (c : tie.After-shared-slice-known) (i : ℕ) → getD (c .before .args .s .now) i 0 < 2 ^ 8
 bytes c i = c .shared-slice-known .given i .fits
 
-times-bytes-requires : tie.Need-times-bytes-requires
-times-bytes-requires c κs = z-product (c .before .before .before .pre) (bytes (c .before .before))
-
 add-exact-requires : tie.Need-add-exact-requires
 add-exact-requires c κs = z-summands (c .before .before .before .before .before .before .pre) (bytes (c .before .before .before .before .before)) (c .before .before .times-bytes .ensures)
-
-same-length : tie.Need-same-length
-same-length c = search needs
 
 returns : tie.Need-returns
 returns c = z-is (c .before .before .before .before .before .before .before .before .pre) (bytes (c .before .before .before .before .before .before .before)) (c .before .before .before .before .times-bytes .ensures) (c .before .add-exact .ensures)
 
 pub make-z-spec : {M : Type 1} → statement M
-make-z-spec = tie.close (tie.spec times-bytes-requires add-exact-requires same-length returns)
+make-z-spec = tie.close (tie.spec (λ c κs. z-product (c .before .before .before .pre) (bytes (c .before .before))) add-exact-requires (λ c. search needs) returns)

@@ -30,23 +30,11 @@ all-sized-requires c κs =
     let product = c .before .before .before .before .before .before .before .before .before .before in
     w-sized (product .before .before .before .before .before .pre) (bytes (product .before .before .before .before)) (product .times-bytes .ensures) (at-subtract-small .subtract-small .ensures)
 
-same-length : tie.Need-same-length
-same-length c = search needs
-
-same-length-2 : tie.Need-same-length-2
-same-length-2 c = search needs
-
 returns : tie.Need-returns
 returns c =
     let at-subtract-small = c .before .before .before .before .before .before .before in
     let product = c .before .before .before .before .before .before .before .before .before .before .before in
     w-both (product .before .before .before .before .before .pre) (bytes (product .before .before .before .before)) (product .times-bytes .ensures) (at-subtract-small .subtract-small .ensures) (c .before .before .before .all-low .ensures) (c .before .before .if1 .taken) (c .all-sized .ensures)
-
-same-length-3 : tie.Need-same-length-3
-same-length-3 c = search needs
-
-same-length-4 : tie.Need-same-length-4
-same-length-4 c = search needs
 
 returns-2 : tie.Need-returns-2
 returns-2 c =
@@ -61,9 +49,9 @@ w-test-spec =
     subtract-small-requires
     all-low-requires
     all-sized-requires
-    same-length
-    same-length-2
+    (λ c. search needs)
+    (λ c. search needs)
     returns
-    same-length-3
-    same-length-4
+    (λ c. search needs)
+    (λ c. search needs)
     returns-2)
