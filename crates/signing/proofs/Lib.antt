@@ -1,2 +1,3 @@
 pub mod SearchSteps
 pub mod SignSteps
+pub mod Determined
