@@ -21,5 +21,5 @@ no-highs-determined κs a x y e f p q = same x y (p .state-is ∙ sym (q .state-
 pub add-highs-determined : Result 1 add-highs-kinds.ps add-highs-kinds.r add-highs.Learnt
 add-highs-determined κs a x y e f p q = same x y (p .state-is ∙ sym (q .state-is)) (p .fit-is ∙ sym (q .fit-is))
 
-pub hash-determined : Output 3 hash-kinds.ps hash-kinds.r hash.Learnt (λ κs e. now (e .1 .1 .0))
+pub hash-determined : Output 3 hash-kinds.ps hash-kinds.r hash.Learnt (λ κs e. now (e .1 .1 .1 .1 .0))
 hash-determined κs a x y e f p q = p .bytes ∙ sym (q .bytes)

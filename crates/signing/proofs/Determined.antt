@@ -14,5 +14,5 @@ sign-determined κs a x y e f p q =
     ap₂ (λ (b : Answer) (n : ℕ). record { answer = b; counter = n })
     (number-one (x .answer) (y .answer) (p .number-is ∙ sym (q .number-is))) (p .counter-is ∙ sym (q .counter-is))
 
-pub sign-signature-determined : Output 4 sign-kinds.ps sign-kinds.r sign.Learnt (λ κs e. now (e .1 .1 .1 .0))
+pub sign-signature-determined : Output 4 sign-kinds.ps sign-kinds.r sign.Learnt (λ κs e. now (e .1 .1 .1 .1 .0))
 sign-signature-determined κs a x y e f p q = p .signature-is ∙ sym (q .signature-is)
