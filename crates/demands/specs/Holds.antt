@@ -14,7 +14,7 @@ use Rattle.whole.specs.Residue.{Same, same-eq, same-sym, same-trans, same-add, 
 use Rattle.whole.specs.Table.{joined-ext, joined-part}
 use Rattle.whole.specs.Every.{every, eachBelow, sameBytes}
 use Rattle.answers.specs.Tests.{answer}
-use Rattle.whole.specs.EveryLaws.{both, both-first, both-second, every-at, eachBelow-at, same-refl-bytes}
+use Rattle.whole.specs.EveryLaws.{both-first, both-second, every-at, eachBelow-at, same-refl-bytes}
 use Rattle.answers.specs.TestLaws.{answer-pass, answer-none}
 use Rattle.rounding.specs.Parts.{high}
 use Rattle.rounding.specs.Tests.{lowPasses, sizePasses, fitsByte}
@@ -37,9 +37,9 @@ use Rattle.records.specs.PublicLaws.{polynomial-length, below-tInRange, publicR
 use Rattle.signatures.specs.Laws.{signatureRecord-length, signature-marked, signature-challenge, signature-z}
 use Rattle.keys.specs.Key.{keyT, allKeyT, publicOf, eachEPasses}
 use Rattle.keys.specs.KeyLaws.{keyT-length, allKeyT-length, allKeyT-below}
-use Rattle.signing.specs.Attempt.{Key, passes, vOf, zFrom, wOf, wPasses, attempt}
-use Rattle.signing.specs.AttemptLaws.{vOf-length, wOf-length, zFrom-length, Passing, passing, attempt-z, attempt-w}
-use Rattle.checking.specs.Check.{checkW, checkHighs, publicG, checkTests}
+use Rattle.attempts.specs.Attempt.{Key, passes, vOf, zFrom, wOf, wPasses, attempt}
+use Rattle.attempts.specs.AttemptLaws.{vOf-length, wOf-length, zFrom-length, Passing, passing, attempt-z, attempt-w}
+use Rattle.checking.specs.Check.{checkW, checkHighs, publicG, inputTests, highTests, hashTests, workTests, digestTests, checkTests}
 use Rattle.demands.specs.Alike.{same-w, alike}
 
 -- ---- lengths, and a mark
@@ -190,10 +190,12 @@ module _ (set : Numbers) (good : Good set) (s e seedA message : List ℕ) where
     pub accepted : (rand : List ℕ) (counter : ℕ) (z : List ℤ) (c′ : List ℕ)
         → attempt set (madeKey set good s e seedA) (messageDigest set message) rand counter ≡ passes z c′
         → answer (checkTests set (publicOf set s e seedA) message (signatureRecord set z c′)) ≡ 0
-    unfolding checkTests
+    unfolding inputTests highTests hashTests workTests digestTests checkTests
     accepted rand counter z c′ a =
-        answer-pass 1 _ (both (eq-eqb _ _ public-long) (eq-eqb _ _ (signatureRecord-length set z c′ z-long c-long)))
-        ∙ answer-pass 2 _ (both public-mark (signature-marked set z c′))
+        answer-pass 1 _ (eq-eqb _ _ (made-length set good s e seedA seedA-long))
+        ∙ answer-pass 1 _ (eq-eqb _ _ (signatureRecord-length set z c′ z-long c-long))
+        ∙ answer-pass 2 _ (made-marked set s e seedA)
+        ∙ answer-pass 2 _ (signature-marked set z c′)
         ∙ answer-pass 3 _ (le-leb (length message) messageLimit short)
         ∙ answer-pass 5 _ (below-tInRange set (allT set public) (rw public-t-is (allKeyT-below set s e seedA good)))
         ∙ answer-pass 9 _ (ap (zInRange set) z-back ∙ z-passes)
