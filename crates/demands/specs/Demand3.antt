@@ -8,7 +8,7 @@
 -- The first holds for every good set and the second for every set. The last two hold where no high part leaves a signed byte: then
 -- signing never answers 10 (`never-10`), nor does checking (`check-never-10`). In set I none does (`set-I-high`: 41 is the largest). All are
 -- stated for set I at the end.
--- What the names stand for is in the specs of `keys`, `signing` and `checking`.
+-- What the names stand for is in the specs of `keys`, `attempts`, `signing` and `checking`.
 -- Assumes nothing.
 use mathlib.Core.Path.{_≡_, refl, sym, ap, ap₂, subst, _∙_}
 use mathlib.Core.Bool.{Bool, true, false, cond}
