@@ -10,7 +10,7 @@
 -- stated for set I at the end.
 -- What the names stand for is in the specs of `keys`, `attempts`, `signing` and `checking`.
 -- Assumes nothing.
-use mathlib.Core.Path.{_≡_, refl, sym, ap, ap₂, subst, _∙_}
+use mathlib.Core.Path.{_≡_, refl, ap₂, _∙_}
 use mathlib.Core.Bool.{Bool, true, false, cond}
 use mathlib.Core.Logic.{_⊎_, inl, inr, ⊎-elim, _↔_}
 use mathlib.Core.List.{List}
@@ -175,7 +175,7 @@ module _ (set : Numbers) (secret message r : List ℕ) (budget signatureLength :
       → (z : List ℤ) × (c′ : List ℕ) × Stopped (attempts set secret message r budget signatureLength) budget 1 (counter set secret message r budget signatureLength) (passes z c′)
       × ((old : List ℕ) → signature set secret message r budget signatureLength old ≡ signatureRecord set z c′)
   smallest-counter signed =
-      (f .z, f .c′, subst (λ (j : ℕ). Stopped (attempts set secret message r budget signatureLength) budget 1 j (passes (f .z) (f .c′))) (sym (f .counted)) (stopped f), f .written)
+      (f .z, f .c′, rw (f .counted) (stopped f), f .written)
     where
       f : Signed set (tests set secret message r budget signatureLength) (result set secret message r budget signatureLength)
       f = signed-is set (tests set secret message r budget signatureLength) (result set secret message r budget signatureLength) signed
@@ -201,9 +201,9 @@ module _ (set : Numbers) (s e seedA seedY message r : List ℕ) (budget signatur
       → number set (secretOf set s e seedA seedY) message r budget signatureLength ≡ 0
       → answer (checkTests set (publicOf set s e seedA) message (signature set (secretOf set s e seedA seedY) message r budget signatureLength old)) ≡ 0
   demand-3 good publicLength secretLength old made signed =
-      ap (λ (x : List ℕ). answer (checkTests set (publicOf set s e seedA) message x)) (f .written old)
-      ∙ accepted set good s e seedA message (a .e-long) (a .seedA-long) (a .checkE) (short set secret message r budget signatureLength (f .passed)) rand (f .at) (f .z) (f .c′)
-      (ap (λ (k : Key). attempt set k (messageDigest set message) rand (f .at)) (sym (same-key set good s e seedA seedY a)) ∙ stopped set secret message r budget signatureLength f .here)
+      rw (f .written old)
+      (accepted set good s e seedA message (a .e-long) (a .seedA-long) (a .checkE) (short set secret message r budget signatureLength (f .passed)) rand (f .at) (f .z) (f .c′)
+      (rw (same-key set good s e seedA seedY a) at (stopped set secret message r budget signatureLength f .here)))
     where
       secret : List ℕ
       secret = secretOf set s e seedA seedY
@@ -237,7 +237,7 @@ highs-fit set q-some h v =
 -- so no attempt meets 10
 outcome-fits : (set : Numbers) (key : Key) (digest : List ℕ) (y : List ℤ) (v : ℕ → List ℕ) → every fitsByte (highsOf set v) ≡ true → tried set key digest y v ≡ overflows → ⊥
 unfolding tried answered
-outcome-fits set key digest y v f e = go (attemptPasses set key y v (encOf set c′)) (sym (ap (λ (b : Bool). cond b (cond (attemptPasses set key y v (encOf set c′)) (passes (zFrom set (key .s) y (encOf set c′)) c′) fails) overflows) f) ∙ e)
+outcome-fits set key digest y v f e = go (attemptPasses set key y v (encOf set c′)) (rw f at e)
   where
     c′ : List ℕ
     c′ = challenge set (highsOf set v) digest (key .g)
@@ -309,7 +309,7 @@ module _ (set : Numbers) (q-some : 0 < set .q) (fit : highMost set ≤ 127) (sec
       given h = ⊎-elim (λ e. is e) (⊎-elim (λ e. absurd (none-passes (is e))) (λ e. absurd (never-10 (is e)))) (three (result set secret message r budget signatureLength))
         where
           is : {m : ℕ} → signNumber 0 (result set secret message r budget signatureLength) ≡ m → number set secret message r budget signatureLength ≡ m
-          is e = ap (λ (t : ℕ). signNumber t (result set secret message r budget signatureLength)) (h .0) ∙ e
+          is e = rw (h .0) e
 
           none-passes : number set secret message r budget signatureLength ≡ 8 → ⊥
           none-passes e = none-exactly .0 e .1 (h .1 .0) (h .1 .3) (h .1 .4) (h .1 .1) (h .1 .2) (h .1 .5)
