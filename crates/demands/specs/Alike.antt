@@ -21,7 +21,7 @@ use Rattle.sampling.specs.Streams.{aOf, encOf}
 use Rattle.sets.specs.declared.Numbers.{Numbers}
 use Rattle.records.specs.Secret.{eOf}
 use Rattle.keys.specs.Key.{keyT}
-use Rattle.signing.specs.Attempt.{vOf, zFrom, wOf}
+use Rattle.attempts.specs.Attempt.{vOf, zFrom, wOf}
 use Rattle.checking.specs.Check.{checkW}
 
 -- ---- a (y + s c) − (a s + e) c is a y − e c

@@ -6,24 +6,28 @@
 -- Opening and reading an envelope test in an order of their own, and the program makes one test before opening's.
 -- Assumes nothing.
 use mathlib.Core.Path.{_≡_, refl, sym, subst, _∙_}
-use mathlib.Core.Bool.{Bool, true, false, cond, true≢false}
+use mathlib.Core.Bool.{Bool, true, false, cond, _&&_, true≢false}
 use mathlib.Core.List.{List, [], _∷_}
 use Prim.Native.Nat.{ℕ, zero, suc, _≤_}
 use native.Mathlib.Nat.{le-refl, le-trans}
 use native.Mathlib.Omega.{arith}
-use lib.Dec.{lit≤}
+use lib.Dec.{eqb, leb}
 use lib.IntN.{ℤ}
-use Rattle.answers.specs.Tests.{Test, answer, after}
-use Rattle.answers.specs.TestLaws.{after-refused}
+use lib.ListN.{getD}
+use borrow.Author.Tests.{eq-eqb, leb-true}
+use Rattle.whole.specs.Every.{every}
+use Rattle.whole.specs.EveryLaws.{both-first, both-second}
+use Rattle.answers.specs.Tests.{Test, _orElse_, answer, after}
+use Rattle.answers.specs.TestLaws.{AllPass, numbered, passes-all, after-refused}
 use Rattle.sets.specs.declared.Numbers.{Numbers}
 use Rattle.sampling.specs.Lent.{testsA, testsY, testsEnc}
-use Rattle.records.specs.Public.{readPublicTests, writePublicTests}
-use Rattle.records.specs.Secret.{readSecretTests, writeSecretTests}
-use Rattle.signatures.specs.Signature.{readSignatureTests, writeSignatureTests}
-use Rattle.keys.specs.Key.{makeKeyTests}
-use Rattle.signing.specs.Search.{Found, found, none as none-found, overflow}
-use Rattle.signing.specs.Sign.{signTests, signNumber, signCounter, signSignature}
-use Rattle.checking.specs.Check.{checkTests}
+use Rattle.records.specs.Public.{publicTests, readPublicTests, writePublicTests}
+use Rattle.records.specs.Secret.{byteTests, secretTests, readSecretTests, writeSecretTests}
+use Rattle.signatures.specs.Signature.{signatureTests, readSignatureTests, writeSignatureTests}
+use Rattle.keys.specs.Key.{secretsTests, makeKeyTests}
+use Rattle.signing.specs.Search.{Found, found, none, overflow}
+use Rattle.signing.specs.Sign.{beginTests, signTests, signNumber, signCounter, signSignature}
+use Rattle.checking.specs.Check.{inputTests, highTests, hashTests, workTests, digestTests, checkTests}
 use Rattle.envelope.specs.Envelope.{headTests, readTests, openTests, writeTests}
 
 -- every test before it passes, the test itself does not, and `number` is its number
@@ -31,15 +35,9 @@ pub data FirstFailing : List Test → ℕ → Type 0 where
   here : {t : Test} {ts : List Test} → t .passes ≡ false → FirstFailing (t ∷ ts) (t .number)
   later : {t : Test} {ts : List Test} {number : ℕ} → t .passes ≡ true → FirstFailing ts number → FirstFailing (t ∷ ts) number
 
--- every test passes
-pub data AllPass : List Test → Type 0 where
-  done : AllPass []
-  also : {t : Test} {ts : List Test} → t .passes ≡ true → AllPass ts → AllPass (t ∷ ts)
-
 -- no test has the number 0, which says that all passed
-pub data Numbered : List Test → Type 0 where
-  none : Numbered []
-  more : {t : Test} {ts : List Test} (m : ℕ) → t .number ≡ suc m → Numbered ts → Numbered (t ∷ ts)
+abbrev pub Numbered : List Test → Type 0
+Numbered ts = numbered ts ≡ true
 
 step-first : (t : Test) (ts : List Test) (number : ℕ) (b : Bool) → t .passes ≡ b → (answer ts ≡ suc number → FirstFailing ts (suc number))
     → cond b (answer ts) (t .number) ≡ suc number → FirstFailing (t ∷ ts) (suc number)
@@ -52,15 +50,29 @@ unfolding answer
 first-failing [] number e = absurd (omega arith)
 first-failing (t ∷ ts) number e = step-first t ts number (t .passes) refl (first-failing ts number) e
 
-step-all : (t : Test) (ts : List Test) (m : ℕ) → t .number ≡ suc m → (b : Bool) → t .passes ≡ b → (answer ts ≡ 0 → AllPass ts) → cond b (answer ts) (t .number) ≡ 0 → AllPass (t ∷ ts)
-step-all t ts m n true p ih e = also p (ih e)
-step-all t ts m n false p ih e = absurd (omega (arith, n, e))
-
 -- 0 is answered only where every test passes
 pub all-pass : (ts : List Test) → Numbered ts → answer ts ≡ 0 → AllPass ts
-unfolding answer
-all-pass [] none e = done
-all-pass (t ∷ ts) (more m n ns) e = step-all t ts m n (t .passes) refl (all-pass ts ns) e
+all-pass = passes-all
+
+-- so the test at each place does
+pub passes-at : (ts : List Test) → Numbered ts → answer ts ≡ 0 → (i : ℕ) → getD ts i (true orElse 0) .passes ≡ true
+unfolding AllPass
+passes-at ts n e i = go ts i (all-pass ts n e)
+  where
+    go : (us : List Test) (j : ℕ) → AllPass us → getD us j (true orElse 0) .passes ≡ true
+    go [] j p = refl
+    go (t ∷ us) zero p = p .0
+    go (t ∷ us) (suc j) p = go us j (p .1)
+
+-- a number is not answered where every test that has it passes
+pub not-answered : (ts : List Test) (number : ℕ) → every (λ (t : Test). cond (eqb (t .number) (suc number)) (t .passes) true) ts ≡ true → answer ts ≡ suc number → ⊥
+unfolding every
+not-answered ts number h e = go ts (suc number) h (first-failing ts number e)
+  where
+    go : (us : List Test) (m : ℕ) → every (λ (t : Test). cond (eqb (t .number) m) (t .passes) true) us ≡ true → FirstFailing us m → ⊥
+    go (t ∷ us) m k (here p) =
+        true≢false (sym (rw (eq-eqb (t .number) (t .number) refl) at (both-first (cond (eqb (t .number) m) (t .passes) true) _ k)) ∙ p)
+    go (t ∷ us) m k (later p f) = go us m (both-second (cond (eqb (t .number) m) (t .passes) true) _ k) f
 
 -- a refusal leaves an output as it was
 pub untouched : {A : Type 0} (ts : List Test) (number : ℕ) (new old : A) → answer ts ≡ suc number → after (answer ts) new old ≡ old
@@ -73,6 +85,19 @@ pub data Rising : List Test → Type 0 where
   end : Rising []
   one : {t : Test} → Rising (t ∷ [])
   up : {t u : Test} {ts : List Test} → t .number ≤ u .number → Rising (u ∷ ts) → Rising (t ∷ u ∷ ts)
+
+-- the same as a computation, by which the lists of the entries are seen to rise
+abbrev rises : List Test → Bool
+rises [] = true
+rises (t ∷ []) = true
+rises (t ∷ u ∷ ts) = leb (t .number) (u .number) && rises (u ∷ ts)
+
+are-rising : (ts : List Test) → rises ts ≡ true → Rising ts
+are-rising [] e = end
+are-rising (t ∷ []) e = one
+are-rising (t ∷ u ∷ ts) e =
+    up (leb-true (t .number) (u .number) (both-first (leb (t .number) (u .number)) (rises (u ∷ ts)) e))
+    (are-rising (u ∷ ts) (both-second (leb (t .number) (u .number)) (rises (u ∷ ts)) e))
 
 -- every test that fails has at least this number
 pub data AtLeast : ℕ → List Test → Type 0 where
@@ -98,7 +123,7 @@ lowest (t ∷ ts) number r (later p f) = also (λ q. absurd (true≢false (sym p
 pub sign-untouched : (set : Numbers) (refusal : ℕ) (f : Found) (number : ℕ) (old : List ℕ) → signNumber refusal f ≡ suc number
     → (signSignature set refusal f old ≡ old) × (signCounter refusal f ≡ 0)
 sign-untouched set zero (found counter z c′) number old h = absurd (omega arith)
-sign-untouched set zero none-found number old h = (refl, refl)
+sign-untouched set zero none number old h = (refl, refl)
 sign-untouched set zero overflow number old h = (refl, refl)
 sign-untouched set (suc refusal) f number old h = (refl, refl)
 
@@ -124,24 +149,24 @@ module _ (set : Numbers) where
     pub open-envelope : (public envelope : List ℕ) → Numbered (openTests set public envelope)
 
   pub entries : Entries
-  unfolding readPublicTests writePublicTests readSecretTests writeSecretTests readSignatureTests writeSignatureTests makeKeyTests signTests checkTests writeTests readTests openTests headTests
+  unfolding every publicTests readPublicTests writePublicTests byteTests secretTests readSecretTests writeSecretTests signatureTests readSignatureTests writeSignatureTests secretsTests makeKeyTests beginTests signTests inputTests highTests hashTests workTests digestTests checkTests writeTests readTests openTests headTests
   entries =
       record {
-        take-a = λ stream n. more 0 refl none;
-        take-y = λ stream n. more 0 refl none;
-        take-positions = λ stream n signs. more 0 refl (more 0 refl (more 0 refl none));
-        read-public = λ public t seed. more 0 refl (more 1 refl (more 4 refl none));
-        write-public = λ t seedA n. more 0 refl (more 4 refl none);
-        read-secret = λ secret a b c d e. more 0 refl (more 1 refl (more 4 refl none));
-        write-secret = λ s e seedA seedY g n. more 0 refl (more 4 refl none);
-        read-signature = λ signature z c. more 0 refl (more 1 refl (more 8 refl none));
-        write-signature = λ z c′ n. more 0 refl (more 8 refl none);
-        make-key = λ s e seedA seedY p q. more 0 refl (more 4 refl (more 5 refl (more 6 refl none)));
-        sign = λ secret m r b n. more 0 refl (more 1 refl (more 2 refl (more 3 refl (more 4 refl (more 5 refl (more 6 refl none))))));
-        check = λ public message signature. more 0 refl (more 1 refl (more 2 refl (more 4 refl (more 8 refl (more 9 refl (more 10 refl none))))));
-        write-envelope = λ roster signature n. more 0 refl (more 1 refl (more 2 refl (more 8 refl none)));
-        read-envelope = λ envelope. more 0 refl (more 1 refl (more 2 refl (more 0 refl (more 1 refl (more 8 refl none)))));
-        open-envelope = λ public envelope. more 0 refl (more 1 refl (more 2 refl (more 0 refl (more 0 refl (more 1 refl (more 2 refl (more 4 refl (more 8 refl (more 9 refl (more 10 refl none))))))))));
+        take-a = λ stream n. refl;
+        take-y = λ stream n. refl;
+        take-positions = λ stream n signs. refl;
+        read-public = λ public t seed. refl;
+        write-public = λ t seedA n. refl;
+        read-secret = λ secret a b c d e. refl;
+        write-secret = λ s e seedA seedY g n. refl;
+        read-signature = λ signature z c. refl;
+        write-signature = λ z c′ n. refl;
+        make-key = λ s e seedA seedY p q. refl;
+        sign = λ secret m r b n. refl;
+        check = λ public message signature. refl;
+        write-envelope = λ roster signature n. refl;
+        read-envelope = λ envelope. refl;
+        open-envelope = λ public envelope. refl;
       }
 
   -- the lists that answer the lowest number that applies
@@ -161,20 +186,20 @@ module _ (set : Numbers) where
     pub write-envelope : (roster signature : List ℕ) (n : ℕ) → Rising (writeTests set roster signature n)
 
   pub rising : RisingEntries
-  unfolding readPublicTests writePublicTests readSecretTests writeSecretTests readSignatureTests writeSignatureTests makeKeyTests signTests checkTests writeTests
+  unfolding every publicTests readPublicTests writePublicTests byteTests secretTests readSecretTests writeSecretTests signatureTests readSignatureTests writeSignatureTests secretsTests makeKeyTests beginTests signTests inputTests highTests hashTests workTests digestTests checkTests writeTests
   rising =
       record {
-        take-a = λ stream n. one;
-        take-y = λ stream n. one;
-        take-positions = λ stream n signs. up (lit≤ tt) (up (lit≤ tt) one);
-        read-public = λ public t seed. up (lit≤ tt) (up (lit≤ tt) one);
-        write-public = λ t seedA n. up (lit≤ tt) one;
-        read-secret = λ secret a b c d e. up (lit≤ tt) (up (lit≤ tt) one);
-        write-secret = λ s e seedA seedY g n. up (lit≤ tt) one;
-        read-signature = λ signature z c. up (lit≤ tt) (up (lit≤ tt) one);
-        write-signature = λ z c′ n. up (lit≤ tt) one;
-        make-key = λ s e seedA seedY p q. up (lit≤ tt) (up (lit≤ tt) (up (lit≤ tt) one));
-        sign = λ secret m r b n. up (lit≤ tt) (up (lit≤ tt) (up (lit≤ tt) (up (lit≤ tt) (up (lit≤ tt) (up (lit≤ tt) one)))));
-        check = λ public message signature. up (lit≤ tt) (up (lit≤ tt) (up (lit≤ tt) (up (lit≤ tt) (up (lit≤ tt) (up (lit≤ tt) one)))));
-        write-envelope = λ roster signature n. up (lit≤ tt) (up (lit≤ tt) (up (lit≤ tt) one));
+        take-a = λ stream n. are-rising _ refl;
+        take-y = λ stream n. are-rising _ refl;
+        take-positions = λ stream n signs. are-rising _ refl;
+        read-public = λ public t seed. are-rising _ refl;
+        write-public = λ t seedA n. are-rising _ refl;
+        read-secret = λ secret a b c d e. are-rising _ refl;
+        write-secret = λ s e seedA seedY g n. are-rising _ refl;
+        read-signature = λ signature z c. are-rising _ refl;
+        write-signature = λ z c′ n. are-rising _ refl;
+        make-key = λ s e seedA seedY p q. are-rising _ refl;
+        sign = λ secret m r b n. are-rising _ refl;
+        check = λ public message signature. are-rising _ refl;
+        write-envelope = λ roster signature n. are-rising _ refl;
       }

@@ -8,22 +8,22 @@
 -- The first holds for every good set and the second for every set. The last two hold where no high part leaves a signed byte: then
 -- signing never answers 10 (`never-10`), nor does checking (`check-never-10`). In set I none does (`set-I-high`: 41 is the largest). All are
 -- stated for set I at the end.
--- What the names stand for is in the specs of `keys`, `signing` and `checking`.
+-- What the names stand for is in the specs of `keys`, `attempts`, `signing` and `checking`.
 -- Assumes nothing.
-use mathlib.Core.Path.{_≡_, refl, sym, ap, ap₂, subst, _∙_}
-use mathlib.Core.Bool.{Bool, true, false, cond, true≢false}
+use mathlib.Core.Path.{_≡_, refl, ap₂, _∙_}
+use mathlib.Core.Bool.{Bool, true, false, cond}
 use mathlib.Core.Logic.{_⊎_, inl, inr, ⊎-elim, _↔_}
-use mathlib.Core.List.{List, [], _∷_}
+use mathlib.Core.List.{List}
 use Prim.Native.Nat.{ℕ, zero, suc, _+_, _*_, _/_, _^_, _≤_, _<_}
 use native.Mathlib.Omega.{arith}
-use lib.Dec.{leb, lit≤, lit<}
+use lib.Dec.{lit≤, lit<}
 use lib.ListN.{length}
 use lib.IntN.{ℤ, pos, negsuc, natAbs}
-use borrow.Author.Tests.{leb-true, lt-ltb}
+use borrow.Author.Tests.{eqb-true, leb-true, lt-ltb}
 use Rattle.whole.specs.Every.{every}
-use Rattle.answers.specs.Tests.{_orElse_, answer}
-use Rattle.whole.specs.EveryLaws.{same-first, same-rest, every-joined, every-map, every-always, eachBelow-all}
-use Rattle.answers.specs.TestLaws.{answer-first, answer-rest, answer-most}
+use Rattle.answers.specs.Tests.{answer}
+use Rattle.whole.specs.EveryLaws.{both, every-joined, every-map, every-always, eachBelow-all}
+use Rattle.answers.specs.TestLaws.{answer-most}
 use Rattle.rounding.specs.Parts.{high, high-bound}
 use Rattle.rounding.specs.Tests.{fitsByte}
 use Rattle.sets.specs.declared.Numbers.{Numbers}
@@ -33,16 +33,17 @@ use Rattle.sets.specs.SetI.{setI, setI-good}
 use Rattle.sampling.specs.Streams.{messageDigest, keyDigest, randOf, yOf, challenge, encOf, highsOf}
 use Rattle.sampling.specs.StreamsLaws.{shake-length}
 use Rattle.records.specs.Public.{packedT, tOf, seedAOf}
-use Rattle.records.specs.Secret.{secretSeedY}
-use Rattle.records.specs.SecretPlaces.{SecretLengths}
+use Rattle.records.specs.Secret.{secretSeedY, byteTests}
+use Rattle.records.specs.Asks.{SecretLengths}
 use Rattle.records.specs.SecretLaws.{secret-s, secret-e, secret-seedA, secret-g}
 use Rattle.signatures.specs.Signature.{signatureRecord, zOf, challengeOf}
-use Rattle.keys.specs.Key.{allKeyT, publicOf, secretOf, eachEPasses, makeKeyTests}
-use Rattle.signing.specs.Attempt.{Key, Outcome, passes, fails, overflows, attempt, tried, answered, attemptPasses, vOf, zFrom}
+use Rattle.keys.specs.Key.{allKeyT, publicOf, secretOf, eachEPasses, secretsTests, makeKeyTests}
+use Rattle.attempts.specs.Attempt.{Key, Outcome, passes, fails, overflows, keyOf, attempt, tried, answered, attemptPasses, vOf, zFrom}
 use Rattle.signing.specs.Search.{Found, found, none, overflow}
 use Rattle.signing.specs.SearchLaws.{Stopped, found-smallest, none-fails, fails-none, overflow-somewhere}
-use Rattle.signing.specs.Sign.{keyOf, signTests, signSearch, signNumber, signSignature, signCounter}
-use Rattle.checking.specs.Check.{checkTests, checkW, checkHighs}
+use Rattle.signing.specs.Sign.{beginTests, signTests, signSearch, signNumber, signSignature, signCounter}
+use Rattle.checking.specs.Check.{checkW, checkHighs, inputTests, highTests, hashTests, workTests, digestTests, checkTests}
+use Rattle.demands.specs.Demand1.{passes-at, not-answered}
 use Rattle.demands.specs.Holds.{madeKey, accepted}
 
 -- ---- the key that signing reads is the one that key making made
@@ -56,18 +57,15 @@ record Accepted (set : Numbers) (s e seedA seedY : List ℕ) : Type 0 where
   pub checkE : eachEPasses set e ≡ true
 
 key-accepted : (set : Numbers) (s e seedA seedY : List ℕ) (publicLength secretLength : ℕ) → answer (makeKeyTests set s e seedA seedY publicLength secretLength) ≡ 0 → Accepted set s e seedA seedY
-unfolding makeKeyTests
+unfolding byteTests secretsTests makeKeyTests every
 key-accepted set s e seedA seedY publicLength secretLength h =
-    let lengths = answer-first _ 0 _ h in
-    let after-s = same-rest (length s) (set .n) _ lengths in
-    let after-e = same-rest (length e) (set .k * set .n) _ after-s in
-    let after-seedA = same-rest (length seedA) seedBytes _ after-e in
+    let at = passes-at (makeKeyTests set s e seedA seedY publicLength secretLength) refl h in
     record {
-      s-long = same-first (length s) (set .n) _ lengths;
-      e-long = same-first (length e) (set .k * set .n) _ after-s;
-      seedA-long = same-first (length seedA) seedBytes _ after-e;
-      seedY-long = same-first (length seedY) seedBytes _ after-seedA;
-      checkE = answer-first (eachEPasses set e) 6 [] (answer-rest _ 5 _ (answer-rest _ 4 _ (answer-rest _ 0 _ h)));
+      s-long = eqb-true (length s) (set .n) (at 0);
+      e-long = eqb-true (length e) (set .k * set .n) (at 1);
+      seedA-long = eqb-true (length seedA) seedBytes (at 2);
+      seedY-long = eqb-true (length seedY) seedBytes (at 3);
+      checkE = at 9;
     }
 
 module _ (set : Numbers) (good : Good set) (s e seedA seedY : List ℕ) (a : Accepted set s e seedA seedY) where
@@ -160,13 +158,11 @@ tests-passed (suc refusal) f l h = absurd (omega arith)
 
 module _ (set : Numbers) (secret message r : List ℕ) (budget signatureLength : ℕ) where
   short : tests set secret message r budget signatureLength ≡ 0 → length message ≤ messageLimit
-  unfolding signTests
-  short h =
-      leb-true (length message) messageLimit
-      (answer-first (leb (length message) messageLimit) 2 _ (answer-rest _ 1 _ (answer-rest _ 0 _ h)))
+  unfolding byteTests secretsTests beginTests signTests every
+  short h = leb-true (length message) messageLimit (passes-at (signTests set secret (length message) (length r) budget signatureLength) refl h 4)
 
   numbers-most : tests set secret message r budget signatureLength ≤ 7
-  unfolding signTests every
+  unfolding byteTests secretsTests beginTests signTests every
   numbers-most = answer-most 7 (signTests set secret (length message) (length r) budget signatureLength) refl
 
   -- the attempt that was found is the smallest that passes
@@ -179,7 +175,7 @@ module _ (set : Numbers) (secret message r : List ℕ) (budget signatureLength :
       → (z : List ℤ) × (c′ : List ℕ) × Stopped (attempts set secret message r budget signatureLength) budget 1 (counter set secret message r budget signatureLength) (passes z c′)
       × ((old : List ℕ) → signature set secret message r budget signatureLength old ≡ signatureRecord set z c′)
   smallest-counter signed =
-      (f .z, f .c′, subst (λ (j : ℕ). Stopped (attempts set secret message r budget signatureLength) budget 1 j (passes (f .z) (f .c′))) (sym (f .counted)) (stopped f), f .written)
+      (f .z, f .c′, rw (f .counted) (stopped f), f .written)
     where
       f : Signed set (tests set secret message r budget signatureLength) (result set secret message r budget signatureLength)
       f = signed-is set (tests set secret message r budget signatureLength) (result set secret message r budget signatureLength) signed
@@ -205,9 +201,9 @@ module _ (set : Numbers) (s e seedA seedY message r : List ℕ) (budget signatur
       → number set (secretOf set s e seedA seedY) message r budget signatureLength ≡ 0
       → answer (checkTests set (publicOf set s e seedA) message (signature set (secretOf set s e seedA seedY) message r budget signatureLength old)) ≡ 0
   demand-3 good publicLength secretLength old made signed =
-      ap (λ (x : List ℕ). answer (checkTests set (publicOf set s e seedA) message x)) (f .written old)
-      ∙ accepted set good s e seedA message (a .e-long) (a .seedA-long) (a .checkE) (short set secret message r budget signatureLength (f .passed)) rand (f .at) (f .z) (f .c′)
-      (ap (λ (k : Key). attempt set k (messageDigest set message) rand (f .at)) (sym (same-key set good s e seedA seedY a)) ∙ stopped set secret message r budget signatureLength f .here)
+      rw (f .written old)
+      (accepted set good s e seedA message (a .e-long) (a .seedA-long) (a .checkE) (short set secret message r budget signatureLength (f .passed)) rand (f .at) (f .z) (f .c′)
+      (rw (same-key set good s e seedA seedY a) at (stopped set secret message r budget signatureLength f .here)))
     where
       secret : List ℕ
       secret = secretOf set s e seedA seedY
@@ -241,7 +237,7 @@ highs-fit set q-some h v =
 -- so no attempt meets 10
 outcome-fits : (set : Numbers) (key : Key) (digest : List ℕ) (y : List ℤ) (v : ℕ → List ℕ) → every fitsByte (highsOf set v) ≡ true → tried set key digest y v ≡ overflows → ⊥
 unfolding tried answered
-outcome-fits set key digest y v f e = go (attemptPasses set key y v (encOf set c′)) (sym (ap (λ (b : Bool). cond b (cond (attemptPasses set key y v (encOf set c′)) (passes (zFrom set (key .s) y (encOf set c′)) c′) fails) overflows) f) ∙ e)
+outcome-fits set key digest y v f e = go (attemptPasses set key y v (encOf set c′)) (rw f at e)
   where
     c′ : List ℕ
     c′ = challenge set (highsOf set v) digest (key .g)
@@ -255,24 +251,12 @@ unfolding attempt
 never-overflows set q-some h key digest rand counter e =
     outcome-fits set key digest (yOf set rand counter) (vOf set (key .seedA) (yOf set rand counter)) (highs-fit set q-some h (vOf set (key .seedA) (yOf set rand counter))) e
 
--- seven tests of which the sixth, with the number 10, passes
-not-10 : (a b c d e f g : Bool) → f ≡ true
-    → answer ((a orElse 1) ∷ (b orElse 2) ∷ (c orElse 3) ∷ (d orElse 5) ∷ (e orElse 9) ∷ (f orElse 10) ∷ (g orElse 11) ∷ []) ≡ 10 → ⊥
-unfolding answer
-not-10 false b c d e f g h x = absurd (omega arith)
-not-10 true false c d e f g h x = absurd (omega arith)
-not-10 true true false d e f g h x = absurd (omega arith)
-not-10 true true true false e f g h x = absurd (omega arith)
-not-10 true true true true false f g h x = absurd (omega arith)
-not-10 true true true true true false g h x = true≢false (sym h)
-not-10 true true true true true true false h x = absurd (omega arith)
-not-10 true true true true true true true h x = absurd (omega arith)
-
 -- and checking never answers 10
 pub check-never-10 : (set : Numbers) → 0 < set .q → highMost set ≤ 127 → (public message signature : List ℕ) → answer (checkTests set public message signature) ≡ 10 → ⊥
-unfolding checkTests checkHighs
+unfolding inputTests highTests hashTests workTests digestTests checkTests checkHighs every
 check-never-10 set q-some h public message signature =
-    not-10 _ _ _ _ _ _ _ (highs-fit set q-some h (checkW set (seedAOf set public) (tOf set public) (zOf set signature) (challengeOf set signature)))
+    not-answered (checkTests set public message signature) 9
+    (both (highs-fit set q-some h (checkW set (seedAOf set public) (tOf set public) (zOf set signature) (challengeOf set signature))) refl)
 
 -- in set I a high part is at most 41 in size
 pub set-I-high : highMost setI ≡ 41
@@ -325,7 +309,7 @@ module _ (set : Numbers) (q-some : 0 < set .q) (fit : highMost set ≤ 127) (sec
       given h = ⊎-elim (λ e. is e) (⊎-elim (λ e. absurd (none-passes (is e))) (λ e. absurd (never-10 (is e)))) (three (result set secret message r budget signatureLength))
         where
           is : {m : ℕ} → signNumber 0 (result set secret message r budget signatureLength) ≡ m → number set secret message r budget signatureLength ≡ m
-          is e = ap (λ (t : ℕ). signNumber t (result set secret message r budget signatureLength)) (h .0) ∙ e
+          is e = rw (h .0) e
 
           none-passes : number set secret message r budget signatureLength ≡ 8 → ⊥
           none-passes e = none-exactly .0 e .1 (h .1 .0) (h .1 .3) (h .1 .4) (h .1 .1) (h .1 .2) (h .1 .5)

@@ -14,7 +14,7 @@ use Rattle.whole.specs.Residue.{Same, same-eq, same-sym, same-trans, same-add, 
 use Rattle.whole.specs.Table.{joined-ext, joined-part}
 use Rattle.whole.specs.Every.{every, eachBelow, sameBytes}
 use Rattle.answers.specs.Tests.{answer}
-use Rattle.whole.specs.EveryLaws.{both, both-first, both-second, every-at, eachBelow-at, same-refl-bytes}
+use Rattle.whole.specs.EveryLaws.{both-first, both-second, every-at, eachBelow-at, same-refl-bytes}
 use Rattle.answers.specs.TestLaws.{answer-pass, answer-none}
 use Rattle.rounding.specs.Parts.{high}
 use Rattle.rounding.specs.Tests.{lowPasses, sizePasses, fitsByte}
@@ -37,9 +37,9 @@ use Rattle.records.specs.PublicLaws.{polynomial-length, below-tInRange, publicR
 use Rattle.signatures.specs.Laws.{signatureRecord-length, signature-marked, signature-challenge, signature-z}
 use Rattle.keys.specs.Key.{keyT, allKeyT, publicOf, eachEPasses}
 use Rattle.keys.specs.KeyLaws.{keyT-length, allKeyT-length, allKeyT-below}
-use Rattle.signing.specs.Attempt.{Key, passes, vOf, zFrom, wOf, wPasses, attempt}
-use Rattle.signing.specs.AttemptLaws.{vOf-length, wOf-length, zFrom-length, Passing, passing, attempt-z, attempt-w}
-use Rattle.checking.specs.Check.{checkW, checkHighs, publicG, checkTests}
+use Rattle.attempts.specs.Attempt.{Key, passes, vOf, zFrom, wOf, wPasses, attempt}
+use Rattle.attempts.specs.AttemptLaws.{vOf-length, wOf-length, zFrom-length, Passing, passing, attempt-z, attempt-w}
+use Rattle.checking.specs.Check.{checkW, checkHighs, publicG, inputTests, highTests, hashTests, workTests, digestTests, checkTests}
 use Rattle.demands.specs.Alike.{same-w, alike}
 
 -- ---- lengths, and a mark
@@ -96,8 +96,22 @@ module _ (set : Numbers) (good : Good set) (s e seedA : List ℕ) where
   module _ (e-long : length e ≡ set .k * set .n) (checkE : eachEPasses set e ≡ true) (y : List ℤ) (c′ : List ℕ)
       (few : AtMost (set .n) (set .h) (polynomialOf (encOf set c′)))
       (passed : eachBelow (set .k) (λ i. wPasses set (wOf set e (vOf set seedA y) (encOf set c′) i)) ≡ true) where
+    -- the signer's v_i and w_i, and e_i c
+    abbrev v : ℕ → List ℕ
+    v = vOf set seedA y
+
+    abbrev w : ℕ → List ℕ
+    w = wOf set e v (encOf set c′)
+
+    abbrev ec : ℕ → ℕ → ℤ
+    ec i = mul (set .n) (signedBytes (eOf set e i)) (polynomialOf (encOf set c′))
+
+    -- the high parts of one polynomial
+    abbrev highs : List ℕ → List ℤ
+    highs = map (λ x. high (set .q) (set .d) (pos x))
+
     -- |e_i c| is at most E
-    small : (i j : ℕ) → i < set .k → j < set .n → natAbs (mul (set .n) (signedBytes (eOf set e i)) (polynomialOf (encOf set c′)) j) ≤ set .e
+    small : (i j : ℕ) → i < set .k → j < set .n → natAbs (ec i j) ≤ set .e
     unfolding eachEPasses sumPasses
     small i j l m =
         omega (arith, bytes-bound (set .n) (set .h) (eOf set e i) (polynomialOf (encOf set c′)) j (polynomial-length (set .n) (set .k) i e e-long l) m few, passes-E)
@@ -105,80 +119,50 @@ module _ (set : Numbers) (good : Good set) (s e seedA : List ℕ) where
         passes-E : largest (set .h) (sizes (eOf set e i)) ≤ set .e
         passes-E = leb-true (largest (set .h) (sizes (eOf set e i))) (set .e) (eachBelow-at (set .k) i (λ i. sumPasses (set .h) (set .e) (eOf set e i)) checkE l)
 
-    one-coefficient : (i j : ℕ) → i < set .k → j < set .n
-        → high (set .q) (set .d) (pos (getD (wOf set e (vOf set seedA y) (encOf set c′) i) j 0)) ≡ high (set .q) (set .d) (pos (getD (vOf set seedA y i) j 0))
+    one-coefficient : (i j : ℕ) → i < set .k → j < set .n → high (set .q) (set .d) (pos (getD (w i) j 0)) ≡ high (set .q) (set .d) (pos (getD (v i) j 0))
     unfolding wPasses wOf
     one-coefficient i j l m =
-        alike (set .q) (set .d) (set .e) (getD (vOf set seedA y i) j 0) (getD w j 0) x (q-some good)
-        (every-at lows w j 0 (both-first (every lows w) (every sized w) both-pass) long)
-        (every-at sized w j 0 (both-second (every lows w) (every sized w) both-pass) long)
+        alike (set .q) (set .d) (set .e) (getD (v i) j 0) (getD (w i) j 0) (ec i j) (q-some good)
+        (every-at lows (w i) j 0 (both-first (every lows (w i)) (every sized (w i)) both-pass) long)
+        (every-at sized (w i) j 0 (both-second (every lows (w i)) (every sized (w i)) both-pass) long)
         moved (small i j l m)
       where
-        w : List ℕ
-        w = wOf set e (vOf set seedA y) (encOf set c′) i
-
-        x : ℤ
-        x = mul (set .n) (signedBytes (eOf set e i)) (polynomialOf (encOf set c′)) j
-
         lows : ℕ → Bool
         lows x = lowPasses (set .q) (set .d) (set .e) (pos x)
 
         sized : ℕ → Bool
         sized x = sizePasses (set .q) (set .e) (pos x)
 
-        v : ℤ
-        v = pos (getD (vOf set seedA y i) j 0)
-
-        apart : v ≡ (v -ℤ x) +ℤ x
-        apart = omega (int, minus-is v x, sum-is (v -ℤ x) x)
-
-        -- w before its residues are taken
-        left : ℕ → ℤ
-        left j = naturals (vOf set seedA y i) j -ℤ mul (set .n) (signedBytes (eOf set e i)) (polynomialOf (encOf set c′)) j
-
-        both-pass : wPasses set w ≡ true
+        both-pass : wPasses set (w i) ≡ true
         both-pass = eachBelow-at (set .k) i _ passed l
 
-        long : j < length w
-        long = omega (arith, m, wOf-length set e (vOf set seedA y) (encOf set c′) i)
+        long : j < length (w i)
+        long = omega (arith, m, wOf-length set e v (encOf set c′) i)
 
-        moved : Same (set .q) v (naturals w j +ℤ x)
+        apart : naturals (v i) j ≡ (naturals (v i) j -ℤ ec i j) +ℤ ec i j
+        apart = omega (int, minus-is (naturals (v i) j) (ec i j), sum-is (naturals (v i) j -ℤ ec i j) (ec i j))
+
+        moved : Same (set .q) (naturals (v i) j) (naturals (w i) j +ℤ ec i j)
         moved =
             same-trans (same-eq (set .q) apart)
-            (same-add (same-sym (residues-at (set .q) (set .n) left j (q-some good) m)) (same-refl (set .q) x))
+            (same-add (same-sym (residues-at (set .q) (set .n) (λ j. naturals (v i) j -ℤ ec i j) j (q-some good) m)) (same-refl (set .q) (ec i j)))
 
-    -- t_i is read from the record as key making made it
-    same-t : (i : ℕ) → i < set .k
-        → checkW set seedA (tOf set (publicOf set s e seedA)) (zFrom set s y (encOf set c′)) c′ i ≡ checkW set seedA (keyT set s e seedA) (zFrom set s y (encOf set c′)) c′ i
-    unfolding checkW
-    same-t i l =
-        ap (λ (t : List ℕ). residues (set .q) (set .n) (λ j. mul (set .n) (naturals (aOf set seedA i)) (integers (zFrom set s y (encOf set c′))) j -ℤ mul (set .n) (naturals t) (polynomialOf (encOf set c′)) j))
-        (made-t i l)
-
-    alike-lists : (i : ℕ) → i < set .k
-        → map (λ x. high (set .q) (set .d) (pos x)) (wOf set e (vOf set seedA y) (encOf set c′) i) ≡ map (λ x. high (set .q) (set .d) (pos x)) (vOf set seedA y i)
+    alike-lists : (i : ℕ) → i < set .k → highs (w i) ≡ highs (v i)
     alike-lists i l =
-        map-alike (λ x. high (set .q) (set .d) (pos x)) (set .n) (wOf set e (vOf set seedA y) (encOf set c′) i) (vOf set seedA y i) 0
-        (w-length i) (v-length i) (λ j m. one-coefficient i j l m)
-      where
-        w-length : (i : ℕ) → length (wOf set e (vOf set seedA y) (encOf set c′) i) ≡ set .n
-        w-length i = wOf-length set e (vOf set seedA y) (encOf set c′) i
+        map-alike (λ x. high (set .q) (set .d) (pos x)) (set .n) (w i) (v i) 0 (wOf-length set e v (encOf set c′) i) (vOf-length set seedA y i)
+        (λ j m. one-coefficient i j l m)
 
-        v-length : (i : ℕ) → length (vOf set seedA y i) ≡ set .n
-        v-length i = vOf-length set seedA y i
+    -- t_i is read from the record as key making made it, so the receiver's w_i are the signer's
+    receiver : (i : ℕ) → i < set .k → checkW set seedA (tOf set (publicOf set s e seedA)) (zFrom set s y (encOf set c′)) c′ i ≡ w i
+    unfolding checkW
+    receiver i l = ap from (made-t i l) ∙ same-w set (q-some good) s e seedA y c′ i
+      where
+        from : List ℕ → List ℕ
+        from t = residues (set .q) (set .n) (λ j. mul (set .n) (naturals (aOf set seedA i)) (integers (zFrom set s y (encOf set c′))) j -ℤ mul (set .n) (naturals t) (polynomialOf (encOf set c′)) j)
 
     pub same-highs : checkHighs set seedA (tOf set (publicOf set s e seedA)) (zFrom set s y (encOf set c′)) c′ ≡ highsOf set (vOf set seedA y)
     unfolding checkHighs highsOf
-    same-highs = joined-ext (set .k) _ _ each
-      where
-        W : ℕ → List ℕ
-        W i = wOf set e (vOf set seedA y) (encOf set c′) i
-
-        receiver : (i : ℕ) → i < set .k → checkW set seedA (tOf set (publicOf set s e seedA)) (zFrom set s y (encOf set c′)) c′ i ≡ W i
-        receiver i l = same-t i l ∙ same-w set (q-some good) s e seedA y c′ i
-
-        each : (i : ℕ) → i < set .k → map (λ x. high (set .q) (set .d) (pos x)) (checkW set seedA (tOf set (publicOf set s e seedA)) (zFrom set s y (encOf set c′)) c′ i) ≡ map (λ x. high (set .q) (set .d) (pos x)) (vOf set seedA y i)
-        each i l = ap (map (λ x. high (set .q) (set .d) (pos x))) (receiver i l) ∙ alike-lists i l
+    same-highs = joined-ext (set .k) _ _ (λ i l. ap highs (receiver i l) ∙ alike-lists i l)
 
 -- ---- demand 3
 
@@ -190,12 +174,14 @@ module _ (set : Numbers) (good : Good set) (s e seedA message : List ℕ) where
     pub accepted : (rand : List ℕ) (counter : ℕ) (z : List ℤ) (c′ : List ℕ)
         → attempt set (madeKey set good s e seedA) (messageDigest set message) rand counter ≡ passes z c′
         → answer (checkTests set (publicOf set s e seedA) message (signatureRecord set z c′)) ≡ 0
-    unfolding checkTests
+    unfolding inputTests highTests hashTests workTests digestTests checkTests
     accepted rand counter z c′ a =
-        answer-pass 1 _ (both (eq-eqb _ _ public-long) (eq-eqb _ _ (signatureRecord-length set z c′ z-long c-long)))
-        ∙ answer-pass 2 _ (both public-mark (signature-marked set z c′))
+        answer-pass 1 _ (eq-eqb _ _ (made-length set good s e seedA seedA-long))
+        ∙ answer-pass 1 _ (eq-eqb _ _ (signatureRecord-length set z c′ z-long c-long))
+        ∙ answer-pass 2 _ (made-marked set s e seedA)
+        ∙ answer-pass 2 _ (signature-marked set z c′)
         ∙ answer-pass 3 _ (le-leb (length message) messageLimit short)
-        ∙ answer-pass 5 _ (below-tInRange set (allT set public) (rw public-t-is (allKeyT-below set s e seedA good)))
+        ∙ answer-pass 5 _ (below-tInRange set (allT set public) (rw made-allT (allKeyT-below set s e seedA good)))
         ∙ answer-pass 9 _ (ap (zInRange set) z-back ∙ z-passes)
         ∙ answer-pass 10 _ (ap (every fitsByte) highs-are ∙ p .fits)
         ∙ answer-pass 11 _ (ap₂ sameBytes hash-is c-back ∙ same-refl-bytes c′)
@@ -207,9 +193,6 @@ module _ (set : Numbers) (good : Good set) (s e seedA message : List ℕ) where
         y : List ℤ
         y = yOf set rand counter
 
-        t : List ℕ
-        t = madeT set good s e seedA
-
         public : List ℕ
         public = publicOf set s e seedA
 
@@ -218,9 +201,6 @@ module _ (set : Numbers) (good : Good set) (s e seedA message : List ℕ) where
 
         p : Passing set key (messageDigest set message) rand counter z c′
         p = passing set key (messageDigest set message) rand counter z c′ a
-
-        t-long : length t ≡ set .k * set .n
-        t-long = allKeyT-length set s e seedA
 
         z-long : length z ≡ set .n
         z-long = ap length (sym (p .is)) ∙ zFrom-length set s y (encOf set c′)
@@ -233,15 +213,6 @@ module _ (set : Numbers) (good : Good set) (s e seedA message : List ℕ) where
 
         w-passes : eachBelow (set .k) (λ i. wPasses set (wOf set e (vOf set seedA y) (encOf set c′) i)) ≡ true
         w-passes = attempt-w set key y (vOf set seedA y) (encOf set c′) (p .tests)
-
-        public-long : length public ≡ publicBytes set
-        public-long = made-length set good s e seedA seedA-long
-
-        public-mark : marked set 1 public ≡ true
-        public-mark = made-marked set s e seedA
-
-        public-t-is : allT set public ≡ t
-        public-t-is = made-allT set good s e seedA
 
         z-back : zOf set signature ≡ z
         z-back = signature-z set z c′ z-long good z-passes
