@@ -7,10 +7,12 @@ use native.Mathlib.Omega.{arith}
 use lib.IntN.{ℤ}
 use lib.ListN.{length, getD, take, drop, length-map}
 use Rattle.whole.specs.Table.{joined}
-use Rattle.whole.specs.Below.{Below, below-part}
+use Rattle.whole.specs.Below.{Below}
+use Rattle.whole.specs.BelowLaws.{below-part}
 use Rattle.whole.specs.Every.{every, eachBelow}
 use Rattle.whole.specs.EveryLaws.{not-first, both-first, eachBelow-ext}
-use Rattle.whole.specs.Twos.{twos, twos-all-below}
+use Rattle.whole.specs.Twos.{twos}
+use Rattle.whole.specs.TwosLaws.{twos-all-below}
 use Rattle.rounding.specs.Tests.{fitsByte}
 use Rattle.ring.specs.Sparse.{sparse}
 use Rattle.shake.specs.declared.Sponge.{Sponge}
@@ -35,7 +37,7 @@ use Rattle.highs.specs.HighsLaws.{hashes-long}
 use Rattle.attempts.specs.declared.Tried.{Tried}
 use Rattle.attempts.specs.declared.Tried.the-variants.{Passes, Fails, Overflows}
 use Rattle.attempts.specs.Attempt.{Outcome, passes, fails, overflows, vOf, zFrom, wOf, wPasses, attemptPasses, answered, tried, attempt, keyOf}
-use Rattle.attempts.specs.Parts.{vRow, zWith, wOne, wWith, rowPasses}
+use Rattle.attempts.specs.Steps.{vRow, zWith, wOne, wWith, rowPasses}
 use Rattle.attempts.specs.Promises.{Committed, Challenged, Responded, concluded, Concluded, Tries, triedOf, triedSignature}
 use Rattle.attempts.specs.Asks.{Whole, Terms, MakesZ, TestsW, Commits, Responds, RespondsKey, Concludes, Places, Attempts}
 use Rattle.records.specs.SecretLaws.{s-lent, e-lent, s-lent-long, e-lent-long}

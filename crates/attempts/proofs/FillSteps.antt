@@ -6,7 +6,8 @@ use native.Mathlib.Nat.{le-antisymm, mul-comm, add-sub-cancel-left}
 use native.Mathlib.Numerals.{add-one}
 use native.Mathlib.Omega.{arith}
 use lib.ListN.{length, take, drop}
-use Rattle.whole.specs.Table.{joined, joined-length}
+use Rattle.whole.specs.Table.{joined}
+use Rattle.whole.specs.TableLaws.{joined-length}
 use Rattle.whole.specs.Parts.{part-length}
 use Rattle.whole.specs.Rows.{row-fits, row-lent}
 use Rattle.whole.specs.Written.{Written, written-none, written-length, written-more, written-all, put-part}

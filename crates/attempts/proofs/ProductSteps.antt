@@ -6,12 +6,15 @@ use native.Mathlib.Nat.{le-antisymm}
 use native.Mathlib.Numerals.{add-one}
 use lib.IntN.{ℤ}
 use lib.ListN.{length, take, drop}
-use Rattle.whole.specs.Residue.{residue-eq}
-use Rattle.whole.specs.Table.{joined, joined-ext, joined-length, joined-part, table-ext}
-use Rattle.whole.specs.Below.{Below, below-joined, Within, within-more}
+use Rattle.whole.specs.ResidueLaws.{residue-eq}
+use Rattle.whole.specs.Table.{joined}
+use Rattle.whole.specs.TableLaws.{joined-ext, joined-length, joined-part, table-ext}
+use Rattle.whole.specs.Below.{Below, Within}
+use Rattle.whole.specs.BelowLaws.{below-joined, within-more}
 use Rattle.whole.specs.Rows.{row-lent}
 use Rattle.ring.specs.Product.{mul}
-use Rattle.ring.specs.Lists.{naturals, integers, residues, length-residues, residues-below, mul-residues}
+use Rattle.ring.specs.Lists.{naturals, integers, residues}
+use Rattle.ring.specs.ListsLaws.{length-residues, residues-below, mul-residues}
 use Rattle.ring.specs.Asks.{Factors, Small}
 use Rattle.sets.specs.declared.Numbers.{Numbers}
 use Rattle.sets.specs.Good.{Good}
@@ -25,7 +28,7 @@ use Rattle.sampling.specs.StreamsLaws.{yOf-length, yOf-size}
 use Rattle.sampling.specs.Residues.{Residues, residues-factors}
 use Rattle.records.specs.Layout.{polynomial}
 use Rattle.records.specs.PublicLaws.{polynomial-length, polynomial-below}
-use Rattle.attempts.specs.Parts.{productOf, vRow}
+use Rattle.attempts.specs.Steps.{productOf, vRow}
 use Rattle.attempts.specs.Asks.{Multiplies, Absorbs, Commits}
 use Rattle.attempts.specs.Promises.{Committed}
 use Rattle.attempts.proofs.FillSteps.{Filling, filling-none, filling-length, filling-fits, filling-lent, filling-more, filling-all}

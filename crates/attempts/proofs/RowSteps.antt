@@ -4,7 +4,8 @@ use mathlib.Core.List.{List, _++_}
 use Prim.Native.Nat.{ℕ, _+_, _*_, _-_, _≤_, _<_}
 use native.Mathlib.Omega.{arith}
 use lib.ListN.{length, take, drop}
-use Rattle.whole.specs.Table.{joined, joined-parts}
+use Rattle.whole.specs.Table.{joined}
+use Rattle.whole.specs.TableLaws.{joined-parts}
 use Rattle.sets.specs.declared.Numbers.{Numbers}
 use Rattle.sampling.specs.declared.drawn.DrawA.{DrawA}
 use Rattle.sampling.specs.Asks.{NextA}

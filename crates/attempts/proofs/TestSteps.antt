@@ -12,17 +12,23 @@ use lib.ListN.{length, getD, take, drop}
 use lib.Seq.{drop-drop}
 use Rattle.whole.specs.Int.{lt-or-le, abs-neg, abs-sum, abs-product}
 use Rattle.whole.specs.Residue.{residue}
-use Rattle.whole.specs.Table.{table, length-table, getD-table, table-ext}
-use Rattle.whole.specs.Below.{Below, within-more, within-table}
-use Rattle.whole.specs.Twos.{signed, signed-size}
+use Rattle.whole.specs.Table.{table}
+use Rattle.whole.specs.TableLaws.{length-table, getD-table, table-ext}
+use Rattle.whole.specs.Below.{Below}
+use Rattle.whole.specs.BelowLaws.{within-more, within-table}
+use Rattle.whole.specs.Twos.{signed}
+use Rattle.whole.specs.TwosLaws.{signed-size}
 use Rattle.whole.specs.Every.{every, eachBelow}
 use Rattle.whole.specs.EveryLaws.{not-first, eachBelow-none, eachBelow-more, eachBelow-fails, eachBelow-end}
 use Rattle.whole.specs.Rows.{row-fits, row-lent, row-next, back-length, back-rest}
 use Rattle.rounding.specs.Tests.{lowPasses, sizePasses}
 use Rattle.rounding.specs.Asks.{LowTests, SizeTests}
-use Rattle.ring.specs.Product.{Poly, turn, turn-low, turn-high, mul}
-use Rattle.ring.specs.Lists.{naturals, integers, signedBytes, residues, residues-below}
-use Rattle.ring.specs.Sparse.{sparse, turns, mul-sparse, Sign, sign-size}
+use Rattle.ring.specs.Product.{Poly, turn, mul}
+use Rattle.ring.specs.ProductLaws.{turn-low, turn-high}
+use Rattle.ring.specs.Lists.{naturals, integers, signedBytes, residues}
+use Rattle.ring.specs.ListsLaws.{residues-below}
+use Rattle.ring.specs.Sparse.{sparse, turns, Sign}
+use Rattle.ring.specs.SparseLaws.{mul-sparse, sign-size}
 use Rattle.ring.specs.Asks.{ByteProduct, WithSmall, Summands}
 use Rattle.sets.specs.declared.Numbers.{Numbers}
 use Rattle.sets.specs.Good.{Good}
@@ -30,7 +36,7 @@ use Rattle.sets.specs.GoodLaws.{q-some, y-small}
 use Rattle.records.specs.Layout.{polynomial}
 use Rattle.records.specs.PublicLaws.{polynomial-length, polynomial-below}
 use Rattle.attempts.specs.Attempt.{wPasses}
-use Rattle.attempts.specs.Parts.{zWith, wOne, wWith}
+use Rattle.attempts.specs.Steps.{zWith, wOne, wWith}
 use Rattle.attempts.specs.Asks.{Terms, MakesZ, TestsOneW, TestsW}
 
 -- ---- a signed byte's product by c: at most 128 for each of c's h terms

@@ -10,7 +10,7 @@ use Prim.Native.Nat.{ℕ}
 use native.Mathlib.Omega.{arith}
 use lib.IntN.{ℤ}
 use lib.ListN.{length}
-use Rattle.whole.specs.Table.{length-table}
+use Rattle.whole.specs.TableLaws.{length-table}
 use Rattle.whole.specs.Every.{every, eachBelow}
 use Rattle.whole.specs.EveryLaws.{both-first, both-second}
 use Rattle.rounding.specs.Tests.{fitsByte}

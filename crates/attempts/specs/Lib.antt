@@ -1,5 +1,5 @@
 pub mod Attempt
 pub mod AttemptLaws
-pub mod Parts
+pub mod Steps
 pub mod Asks
 pub mod Promises

@@ -17,7 +17,7 @@ use Rattle.highs.specs.Highs.{Held}
 use Rattle.attempts.specs.declared.Tried.{Tried}
 use Rattle.attempts.specs.declared.Tried.the-variants.{Passes, Fails, Overflows}
 use Rattle.attempts.specs.Attempt.{Outcome, passes, fails, overflows, zFrom}
-use Rattle.attempts.specs.Parts.{vRow, rowPasses}
+use Rattle.attempts.specs.Steps.{vRow, rowPasses}
 
 -- y, v_1..v_k and their high parts, of a_1..a_k, rand and the counter
 pub record Committed (set : Numbers) (a rand : List ℕ) (counter : ℕ) (y : List ℤ) (v : List ℕ) (highs : Highs) : Type 0 where

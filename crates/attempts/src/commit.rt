@@ -8,7 +8,7 @@ ghost use Rattle.sets.specs.Known.{Known};
 ghost use Rattle.sampling.specs.Streams.{highsOf};
 ghost use Rattle.records.specs.Layout.{polynomial};
 ghost use Rattle.highs.specs.Highs.{Held};
-ghost use Rattle.attempts.specs.Parts.{productOf};
+ghost use Rattle.attempts.specs.Steps.{productOf};
 ghost use Rattle.attempts.specs.Promises.{Committed};
 ghost use Rattle.attempts.specs.Asks.{Multiplies, Absorbs, Commits};
 

@@ -6,7 +6,7 @@ ghost use Rattle.whole.specs.Every.{eachBelow};
 ghost use Rattle.ring.specs.Sparse.{sparse};
 ghost use Rattle.records.specs.Secret.{sOf, allE};
 ghost use Rattle.attempts.specs.Attempt.{wPasses};
-ghost use Rattle.attempts.specs.Parts.{zWith, wOne, wWith};
+ghost use Rattle.attempts.specs.Steps.{zWith, wOne, wWith};
 ghost use Rattle.attempts.specs.Promises.{Responded};
 ghost use Rattle.attempts.specs.Asks.{MakesZ, TestsOneW, TestsW, Responds, RespondsKey};
 

@@ -5,10 +5,12 @@ use mathlib.Core.List.{List}
 use Prim.Native.Nat.{ℕ, _<_}
 use lib.IntN.{ℤ, _-ℤ_}
 use lib.ListN.{length}
-use Rattle.whole.specs.Residue.{Same, same-minus, residue-eq}
-use Rattle.whole.specs.Table.{table-ext}
+use Rattle.whole.specs.Residue.{Same}
+use Rattle.whole.specs.ResidueLaws.{same-minus, residue-eq}
+use Rattle.whole.specs.TableLaws.{table-ext}
 use Rattle.ring.specs.Product.{mul}
-use Rattle.ring.specs.Lists.{naturals, residues, length-residues, residues-at, residues-below}
+use Rattle.ring.specs.Lists.{naturals, residues}
+use Rattle.ring.specs.ListsLaws.{length-residues, residues-at, residues-below}
 use Rattle.ring.specs.Sparse.{sparse}
 use Rattle.ring.specs.Asks.{Factors, SparseProduct, TwoResidues}
 use Rattle.sets.specs.declared.Numbers.{Numbers}

@@ -10,11 +10,13 @@ use native.Mathlib.Numerals.{add-one}
 use native.Mathlib.Omega.{arith}
 use lib.IntN.{ℤ}
 use lib.ListN.{take, length-map}
-use Rattle.whole.specs.Residue.{residue-eq, same-refl, same-minus}
-use Rattle.whole.specs.Table.{joined, joined-ext, table-ext}
+use Rattle.whole.specs.ResidueLaws.{residue-eq, same-refl, same-minus}
+use Rattle.whole.specs.Table.{joined}
+use Rattle.whole.specs.TableLaws.{joined-ext, table-ext}
 use Rattle.answers.specs.Tests.{Answered}
 use Rattle.ring.specs.Product.{mul}
-use Rattle.ring.specs.Lists.{naturals, integers, residues, mul-residues}
+use Rattle.ring.specs.Lists.{naturals, integers, residues}
+use Rattle.ring.specs.ListsLaws.{mul-residues}
 use Rattle.sets.specs.declared.Numbers.{Numbers}
 use Rattle.sets.specs.Good.{Good}
 use Rattle.sets.specs.GoodLaws.{q-some}

@@ -8,14 +8,19 @@ use Prim.Native.Nat.{ℕ, _+_, _-_, _^_, _≤_, _<_}
 use native.Mathlib.Omega.{arith}
 use lib.IntN.{ℤ, pos, natAbs, _+ℤ_, _-ℤ_}
 use Rattle.whole.specs.Int.{as-difference, differences, difference-same}
-use Rattle.whole.specs.Residue.{residue-eq, Same, same-refl, same-eq, same-sym, same-trans, same-add, same-minus, same-less}
-use Rattle.whole.specs.Table.{table-ext, getD-table}
-use Rattle.rounding.specs.Centred.{centred, Central, centred-central, centred-same}
-use Rattle.rounding.specs.Parts.{low, high, low-eq, high-eq, rounds-alike}
+use Rattle.whole.specs.Residue.{Same}
+use Rattle.whole.specs.ResidueLaws.{residue-eq, same-refl, same-eq, same-sym, same-trans, same-add, same-minus, same-less}
+use Rattle.whole.specs.TableLaws.{table-ext, getD-table}
+use Rattle.rounding.specs.Centred.{centred, Central}
+use Rattle.rounding.specs.CentredLaws.{centred-central, centred-same}
+use Rattle.rounding.specs.Parts.{low, high}
+use Rattle.rounding.specs.PartsLaws.{low-eq, high-eq, rounds-alike}
 use Rattle.rounding.specs.Tests.{lowPasses, sizePasses}
 use borrow.Author.Tests.{ltb-true}
-use Rattle.ring.specs.Product.{Poly, mul, mul-ext, mul-add, add-mul, mul-assoc, mul-same}
-use Rattle.ring.specs.Lists.{naturals, integers, signedBytes, residues-at}
+use Rattle.ring.specs.Product.{Poly, mul}
+use Rattle.ring.specs.ProductLaws.{mul-ext, mul-add, add-mul, mul-assoc, mul-same}
+use Rattle.ring.specs.Lists.{naturals, integers, signedBytes}
+use Rattle.ring.specs.ListsLaws.{residues-at}
 use Rattle.sampling.specs.Positions.{polynomialOf}
 use Rattle.sampling.specs.Streams.{aOf, encOf}
 use Rattle.sets.specs.declared.Numbers.{Numbers}

@@ -24,7 +24,8 @@ use Rattle.whole.specs.Every.{every}
 use Rattle.answers.specs.Tests.{answer}
 use Rattle.whole.specs.EveryLaws.{both, every-joined, every-map, every-always, eachBelow-all}
 use Rattle.answers.specs.TestLaws.{answer-most}
-use Rattle.rounding.specs.Parts.{high, high-bound}
+use Rattle.rounding.specs.Parts.{high}
+use Rattle.rounding.specs.PartsLaws.{high-bound}
 use Rattle.rounding.specs.Tests.{fitsByte}
 use Rattle.sets.specs.declared.Numbers.{Numbers}
 use Rattle.sets.specs.Good.{Good}

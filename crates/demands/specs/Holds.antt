@@ -10,8 +10,9 @@ use lib.Seq.{ext-getD}
 use lib.IntN.{ℤ, pos, natAbs, _+ℤ_, _-ℤ_}
 use borrow.Author.Tests.{eq-eqb, leb-true, le-leb}
 use Rattle.whole.specs.Int.{int, minus-is, sum-is}
-use Rattle.whole.specs.Residue.{Same, same-eq, same-sym, same-trans, same-add, same-refl}
-use Rattle.whole.specs.Table.{joined-ext, joined-part}
+use Rattle.whole.specs.Residue.{Same}
+use Rattle.whole.specs.ResidueLaws.{same-eq, same-sym, same-trans, same-add, same-refl}
+use Rattle.whole.specs.TableLaws.{joined-ext, joined-part}
 use Rattle.whole.specs.Every.{every, eachBelow, sameBytes}
 use Rattle.answers.specs.Tests.{answer}
 use Rattle.whole.specs.EveryLaws.{both-first, both-second, every-at, eachBelow-at, same-refl-bytes}
@@ -19,7 +20,8 @@ use Rattle.answers.specs.TestLaws.{answer-pass, answer-none}
 use Rattle.rounding.specs.Parts.{high}
 use Rattle.rounding.specs.Tests.{lowPasses, sizePasses, fitsByte}
 use Rattle.ring.specs.Product.{mul}
-use Rattle.ring.specs.Lists.{naturals, integers, signedBytes, residues, residues-at}
+use Rattle.ring.specs.Lists.{naturals, integers, signedBytes, residues}
+use Rattle.ring.specs.ListsLaws.{residues-at}
 use Rattle.ring.specs.Largest.{largest, sizes, sumPasses}
 use Rattle.ring.specs.Bound.{AtMost, bytes-bound}
 use Rattle.sets.specs.declared.Numbers.{Numbers}

@@ -8,7 +8,8 @@ use lib.ListN.{length}
 use Rattle.whole.specs.Below.{Below}
 use Rattle.whole.specs.Every.{every}
 use Rattle.whole.specs.EveryLaws.{every-map}
-use Rattle.whole.specs.Twos.{twos, twos-all-below}
+use Rattle.whole.specs.Twos.{twos}
+use Rattle.whole.specs.TwosLaws.{twos-all-below}
 use Rattle.rounding.specs.Parts.{high}
 use Rattle.rounding.specs.Tests.{fitsByte}
 use Rattle.rounding.specs.Asks.{HighBytes}

@@ -10,10 +10,11 @@ use lib.ListN.{length, take, drop, length-append}
 use lib.Seq.{length-take-le}
 use Rattle.whole.specs.Parts.{part-length}
 use Rattle.whole.specs.Rows.{row-within, row-lent}
-use Rattle.whole.specs.Table.{joined, joined-length, joined-ext, joined-part}
+use Rattle.whole.specs.Table.{joined}
+use Rattle.whole.specs.TableLaws.{joined-length, joined-ext, joined-part}
 use Rattle.whole.specs.Written.{Written, written-kept, written-more, written-length}
 use Rattle.packing.specs.Digits.{packed}
-use Rattle.ring.specs.Lists.{length-residues, residues-below}
+use Rattle.ring.specs.ListsLaws.{length-residues, residues-below}
 use Rattle.sets.specs.declared.Numbers.{Numbers}
 use Rattle.sets.specs.GoodLaws.{q-some}
 use Rattle.sets.specs.Known.{Known, known-good}

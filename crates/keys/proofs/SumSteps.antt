@@ -4,10 +4,12 @@ use mathlib.Core.List.{List}
 use Prim.Native.Nat.{ℕ, _<_}
 use lib.IntN.{_+ℤ_}
 use lib.ListN.{length}
-use Rattle.whole.specs.Residue.{Same, same-refl, same-trans, same-add, residue-eq}
-use Rattle.whole.specs.Table.{table-ext}
+use Rattle.whole.specs.Residue.{Same}
+use Rattle.whole.specs.ResidueLaws.{same-refl, same-trans, same-add, residue-eq}
+use Rattle.whole.specs.TableLaws.{table-ext}
 use Rattle.ring.specs.Asks.{Factors, WithBytes}
-use Rattle.ring.specs.Lists.{naturals, signedBytes, residues, length-residues, residues-at, residues-below, mul-residues}
+use Rattle.ring.specs.Lists.{naturals, signedBytes, residues}
+use Rattle.ring.specs.ListsLaws.{length-residues, residues-at, residues-below, mul-residues}
 use Rattle.ring.specs.Product.{mul}
 use Rattle.sets.specs.declared.Numbers.{Numbers}
 use Rattle.sets.specs.GoodLaws.{q-some}

@@ -4,9 +4,10 @@ use mathlib.Core.Path.{_≡_}
 use mathlib.Core.List.{List}
 use Prim.Native.Nat.{ℕ, _*_}
 use lib.ListN.{length}
-use Rattle.whole.specs.Below.{Below, below-joined}
-use Rattle.whole.specs.Table.{joined-length}
-use Rattle.ring.specs.Lists.{length-residues, residues-below}
+use Rattle.whole.specs.Below.{Below}
+use Rattle.whole.specs.BelowLaws.{below-joined}
+use Rattle.whole.specs.TableLaws.{joined-length}
+use Rattle.ring.specs.ListsLaws.{length-residues, residues-below}
 use Rattle.sets.specs.declared.Numbers.{Numbers}
 use Rattle.sets.specs.Good.{Good}
 use Rattle.sets.specs.GoodLaws.{q-some}

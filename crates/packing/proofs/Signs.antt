@@ -15,8 +15,9 @@ use mir.Syntax.{w32, w64}
 use mir.Val.{SFits, toZ, ofZ}
 use mir.Facts.{toZ-ofZ, toZ-pos}
 use Rattle.whole.specs.Int.{int, sum-is}
-use Rattle.whole.specs.Residue.{residue-lt, residue-small}
-use Rattle.whole.specs.Twos.{InBits, signed, twos, halves, signed-low, signed-high, twos-below, signed-range}
+use Rattle.whole.specs.ResidueLaws.{residue-lt, residue-small}
+use Rattle.whole.specs.Twos.{InBits, signed, twos}
+use Rattle.whole.specs.TwosLaws.{halves, signed-low, signed-high, twos-below, signed-range}
 use Rattle.whole.specs.Fill.{Wrote, wrote-more}
 use Rattle.whole.specs.Words.{read-i64, one-shifted}
 use Rattle.packing.specs.Twos.{ToBits}

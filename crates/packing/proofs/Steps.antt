@@ -9,8 +9,9 @@ use native.Mathlib.Omega.{arith}
 use lib.ListN.{length, getD, drop, set}
 use lib.Arith.{digits-lt}
 use lib.Pow.{pow-pos, pow-add, shr-lt, shr-shr}
-use Rattle.whole.specs.Below.{below-any}
-use Rattle.whole.specs.Table.{table, table-is}
+use Rattle.whole.specs.BelowLaws.{below-any}
+use Rattle.whole.specs.Table.{table}
+use Rattle.whole.specs.TableLaws.{table-is}
 use Rattle.whole.specs.Fill.{Wrote, wrote-none, wrote-more, wrote-front, wrote-all}
 use Rattle.packing.specs.Digits.{value, digits, bytesFor, packed, unpacked, Packs, Unpacks}
 use Rattle.packing.specs.Laws.{digits-at, digits-length, value-drop}

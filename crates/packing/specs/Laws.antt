@@ -9,7 +9,8 @@ use native.Mathlib.Omega.{arith}
 use lib.ListN.{length, getD, drop}
 use lib.Arith.{digits-lt}
 use lib.Pow.{pow-pos, pow-mono, pow-add, mod-pow-add, shr-shr}
-use Rattle.whole.specs.Below.{Below, below-tail}
+use Rattle.whole.specs.Below.{Below}
+use Rattle.whole.specs.BelowLaws.{below-tail}
 use Rattle.packing.specs.Digits.{value, digits, bytesFor, packed, unpacked}
 
 -- ---- digits

@@ -6,8 +6,10 @@ use Prim.Native.Nat.{ℕ, zero, suc, _^_, _<_, suc-le-suc}
 use native.Mathlib.Nat.{zero-lt-suc, not-suc-le-zero, le-of-suc-le-suc}
 use lib.ListN.{length, getD}
 use lib.IntN.{ℤ, pos}
-use Rattle.whole.specs.Below.{Below, below-tail}
-use Rattle.whole.specs.Twos.{InBits, signed, twos, signed-twos, twos-signed, signed-range}
+use Rattle.whole.specs.Below.{Below}
+use Rattle.whole.specs.BelowLaws.{below-tail}
+use Rattle.whole.specs.Twos.{InBits, signed, twos}
+use Rattle.whole.specs.TwosLaws.{signed-twos, twos-signed, signed-range}
 
 -- every number is in the range of b bits
 pub record AllInBits (b : ℕ) (zs : List ℤ) : Type 0 where

@@ -11,12 +11,13 @@ use lib.Dec.{eqb, ltb}
 use lib.ListN.{length, getD, take, drop, length-drop, length-append}
 use lib.Seq.{length-take-le}
 use borrow.Author.Tests.{lt-ltb, le-ltb, eqb-true}
-use Rattle.whole.specs.Below.{below-more}
+use Rattle.whole.specs.BelowLaws.{below-more}
 use Rattle.whole.specs.Every.{every, eachBelow}
 use Rattle.whole.specs.EveryLaws.{Passing, passing-more, passing-fails, passing-all, every-joined, eachBelow-none, eachBelow-more, eachBelow-fails, eachBelow-end}
 use Rattle.whole.specs.Parts.{part-length}
 use Rattle.whole.specs.Rows.{row-fits}
-use Rattle.whole.specs.Table.{joined, joined-length}
+use Rattle.whole.specs.Table.{joined}
+use Rattle.whole.specs.TableLaws.{joined-length}
 use Rattle.whole.specs.Written.{lent-rest, put-rest, Written, written-none, written-kept, written-length, written-more, written-all, put-part}
 use Rattle.answers.specs.Tests.{Answered}
 use Rattle.answers.specs.TestLaws.{AllPass, all-passed, holds, misses}

@@ -11,9 +11,10 @@ use lib.Dec.{eqb, ltb}
 use lib.ListN.{length, getD, take, length-append}
 use lib.Seq.{take-all}
 use borrow.Author.Tests.{eq-eqb, eqb-true, lt-ltb, ltb-true}
-use Rattle.whole.specs.Below.{Below, below-more, below-part}
+use Rattle.whole.specs.Below.{Below}
+use Rattle.whole.specs.BelowLaws.{below-more, below-part}
 use Rattle.whole.specs.Parts.{part-length, part-piece, part-last, part-part, parts-join, part-second}
-use Rattle.whole.specs.Table.{joined-ext, joined-length, joined-part, joined-parts}
+use Rattle.whole.specs.TableLaws.{joined-ext, joined-length, joined-part, joined-parts}
 use Rattle.answers.specs.Tests.{answer}
 use Rattle.whole.specs.Every.{every}
 use Rattle.whole.specs.EveryLaws.{both-first, both-second, every-at, every-all}

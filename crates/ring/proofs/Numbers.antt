@@ -14,8 +14,10 @@ use borrow.Author.Tests.{ltb-true}
 use lib.IntN.{ℤ, pos, negsuc, negℤ, natAbs, _+ℤ_, _-ℤ_, +ℤ-idl}
 use lib.Signed.{ltZ, nonNeg}
 use Rattle.whole.specs.Int.{int, sum-is, minus-is, up-neg, down-neg, abs-neg, mag-le, negative-is, not-negative-is}
-use Rattle.whole.specs.Residue.{residue, residue-is, Same, same-eq}
-use Rattle.whole.specs.Twos.{signed, signed-low, signed-high, signed-size}
+use Rattle.whole.specs.Residue.{residue, Same}
+use Rattle.whole.specs.ResidueLaws.{residue-is, same-eq}
+use Rattle.whole.specs.Twos.{signed}
+use Rattle.whole.specs.TwosLaws.{signed-low, signed-high, signed-size}
 use Rattle.ring.specs.Asks.{Taken, Added}
 
 -- ---- a − b modulo q

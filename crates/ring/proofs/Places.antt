@@ -9,9 +9,12 @@ use lib.ListN.{length, getD, drop, set, replicate, length-set, length-append, le
 use lib.Seq.{drop-cons, drop-length, append-snoc, set-at, getD-at, set-getD}
 use lib.Dec.{lit<}
 use lib.IntN.{natAbs}
-use Rattle.whole.specs.Below.{Below, below-cons, below-tail, below-zeros}
-use Rattle.whole.specs.Table.{table, table-is}
-use Rattle.whole.specs.Twos.{signed, signed-size}
+use Rattle.whole.specs.Below.{Below}
+use Rattle.whole.specs.BelowLaws.{below-cons, below-tail, below-zeros}
+use Rattle.whole.specs.Table.{table}
+use Rattle.whole.specs.TableLaws.{table-is}
+use Rattle.whole.specs.Twos.{signed}
+use Rattle.whole.specs.TwosLaws.{signed-size}
 use Rattle.ring.specs.Largest.{push, places, added, sizes, Cleared, Few, Addable}
 
 -- ---- a push

@@ -9,10 +9,13 @@ use lib.ListN.{length, getD, take, drop, length-take, length-drop}
 use lib.Seq.{take-all, length-take-le, getD-take, getD-drop}
 use lib.IntN.{ℤ, pos, _+ℤ_, _-ℤ_, _*ℤ_}
 use Rattle.whole.specs.Int.{int, sum-is, minus-is, *ℤ-assoc}
-use Rattle.whole.specs.Residue.{residue, residue-is, residue-eq-same, Same, same-refl, same-sym, same-trans, same-minus}
-use Rattle.whole.specs.Sum.{sum, sum-total, total, total-ext}
-use Rattle.whole.specs.Below.{below-more, below-drop, below-take}
-use Rattle.ring.specs.Product.{mul, mul-written}
+use Rattle.whole.specs.Residue.{residue, Same}
+use Rattle.whole.specs.ResidueLaws.{residue-is, residue-eq-same, same-refl, same-sym, same-trans, same-minus}
+use Rattle.whole.specs.Sum.{sum, total}
+use Rattle.whole.specs.SumLaws.{sum-total, total-ext}
+use Rattle.whole.specs.BelowLaws.{below-more, below-drop, below-take}
+use Rattle.ring.specs.Product.{mul}
+use Rattle.ring.specs.ProductLaws.{mul-written}
 use Rattle.ring.specs.Lists.{naturals}
 use Rattle.ring.specs.Asks.{crossing, crossed, Factors, Multiple, Kept, Addend, Foldable, Row}
 

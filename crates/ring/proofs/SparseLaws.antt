@@ -12,12 +12,17 @@ use mir.Syntax.{w8, w32}
 use mir.Val.{SFits, toZ, ofZ}
 use mir.Facts.{toZ-ofZ}
 use Rattle.whole.specs.Int.{int, sum-is, product-is, up-neg, down-neg, abs-sum, abs-neg, abs-product}
-use Rattle.whole.specs.Residue.{residue, residue-is, residue-same, Same, same-eq, same-refl, same-sym, same-trans, same-add, same-mul}
-use Rattle.whole.specs.Sum.{sum, sum-first}
-use Rattle.whole.specs.Twos.{signed, signed-size}
-use Rattle.ring.specs.Product.{Poly, turn, turn-low, turn-high, mul}
+use Rattle.whole.specs.Residue.{residue, Same}
+use Rattle.whole.specs.ResidueLaws.{residue-is, residue-same, same-eq, same-refl, same-sym, same-trans, same-add, same-mul}
+use Rattle.whole.specs.Sum.{sum}
+use Rattle.whole.specs.SumLaws.{sum-first}
+use Rattle.whole.specs.Twos.{signed}
+use Rattle.whole.specs.TwosLaws.{signed-size}
+use Rattle.ring.specs.Product.{Poly, turn, mul}
+use Rattle.ring.specs.ProductLaws.{turn-low, turn-high}
 use Rattle.ring.specs.Lists.{naturals, signedBytes}
-use Rattle.ring.specs.Sparse.{turns, sparse, mul-sparse, Sign, Signed, sign-size}
+use Rattle.ring.specs.Sparse.{turns, sparse, Sign, Signed}
+use Rattle.ring.specs.SparseLaws.{mul-sparse, sign-size}
 use Rattle.ring.specs.Asks.{Near, Turned, SparseRow, SparseProduct, ByteRow, ByteProduct}
 use Rattle.ring.proofs.Numbers.{small-fits, minus-read}
 

@@ -9,12 +9,16 @@ use native.Mathlib.Omega.{arith}
 use lib.ListN.{length, getD, length-map, List·getD-map}
 use lib.IntN.{natAbs, _*ℤ_}
 use Rattle.whole.specs.Int.{lt-or-le, abs-neg, abs-product, less-one}
-use Rattle.whole.specs.Sum.{total, sum-abs, total-ext, total-split, total-reverse}
-use Rattle.whole.specs.Table.{table, length-table, getD-table}
+use Rattle.whole.specs.Sum.{total}
+use Rattle.whole.specs.SumLaws.{sum-abs, total-ext, total-split, total-reverse}
+use Rattle.whole.specs.Table.{table}
+use Rattle.whole.specs.TableLaws.{length-table, getD-table}
 use Rattle.whole.specs.Twos.{signed}
-use Rattle.ring.specs.Product.{Poly, turn, mul, turn-low, turn-high}
+use Rattle.ring.specs.Product.{Poly, turn, mul}
+use Rattle.ring.specs.ProductLaws.{turn-low, turn-high}
 use Rattle.ring.specs.Lists.{signedBytes}
-use Rattle.ring.specs.Largest.{largest, sizes, largest-skip, largest-take}
+use Rattle.ring.specs.Largest.{largest, sizes}
+use Rattle.ring.specs.LargestLaws.{largest-skip, largest-take}
 
 -- n coefficients, of which at most h are +1 or −1 and every other is 0
 pub record AtMost (n h : ℕ) (c : Poly) : Type 0 where

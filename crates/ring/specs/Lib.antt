@@ -1,6 +1,10 @@
 pub mod Product
+pub mod ProductLaws
 pub mod Lists
+pub mod ListsLaws
 pub mod Sparse
+pub mod SparseLaws
 pub mod Largest
+pub mod LargestLaws
 pub mod Bound
 pub mod Asks

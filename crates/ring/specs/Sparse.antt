@@ -1,19 +1,14 @@
--- A sparse polynomial, given as positions with signs, and the product by it.
--- Assumes nothing.
-use mathlib.Core.Path.{_≡_, refl, ap, ap₂, _∙_}
+-- A sparse polynomial, given as positions with signs. Assumes nothing: these are definitions.
+use mathlib.Core.Path.{_≡_}
 use mathlib.Core.Bool.{cond}
-use mathlib.Core.Logic.{_⊎_, inl, inr, ⊎-elim}
+use mathlib.Core.Logic.{_⊎_}
 use mathlib.Core.List.{List, [], _∷_}
-use Prim.Native.Nat.{ℕ, zero, suc, _≤_, _<_}
-use native.Mathlib.Omega.{arith}
+use Prim.Native.Nat.{ℕ, _<_}
 use lib.Dec.{eqb}
 use lib.ListN.{length, getD}
-use lib.IntN.{ℤ, pos, negsuc, natAbs, _+ℤ_, _*ℤ_, +ℤ-idl, +ℤ-idr, zero-*ℤ}
-use borrow.Author.Tests.{eq-eqb, ne-eqb}
-use Rattle.whole.specs.Int.{lt-or-le}
-use Rattle.whole.specs.Sum.{sum, sum-ext, sum-zero}
-use Rattle.whole.specs.Below.{Below, below-tail}
-use Rattle.ring.specs.Product.{Poly, turn, mul, mul-comm, mul-add}
+use lib.IntN.{ℤ, pos, negsuc, _+ℤ_, _*ℤ_}
+use Rattle.whole.specs.Below.{Below}
+use Rattle.ring.specs.Product.{Poly, turn}
 
 -- s · xᵖ
 unfoldable pub term : ℕ → ℤ → Poly
@@ -35,51 +30,8 @@ turns n f (p ∷ ps) (s ∷ ss) k = s *ℤ turn n p f k +ℤ turns n f ps ss k
 abbrev pub Sign : ℤ → Type 0
 Sign s = (s ≡ pos 1) ⊎ (s ≡ negsuc 0)
 
-pub sign-size : {s : ℤ} → Sign s → natAbs s ≡ 1
-sign-size {s} (inl e) = rw e
-sign-size {s} (inr e) = rw e
-
 -- Positions below n, a sign +1 or −1 for each
 pub record Signed (n : ℕ) (ps : List ℕ) (ss : List ℤ) : Type 0 where
   pub paired : length ss ≡ length ps
   pub inside : Below n ps
   pub signs : (i : ℕ) → i < length ss → Sign (getD ss i (pos 0))
-
--- ---- the product by a sparse polynomial is the sum of the turns
-
-pub term-at : (p : ℕ) (s : ℤ) → term p s p ≡ s
-unfolding term
-term-at p s = rw (eq-eqb p p refl)
-
-pub term-off : (p : ℕ) (s : ℤ) (k : ℕ) → (p ≡ k → ⊥) → term p s k ≡ pos 0
-unfolding term
-term-off p s k h = rw (ne-eqb p k h)
-
-none : (n p : ℕ) (s : ℤ) (g : ℕ → ℤ) → n ≤ p → sum n (λ i. term p s i *ℤ g i) ≡ pos 0
-none n p s g h =
-    sum-ext n (λ i. term p s i *ℤ g i) (λ i. pos 0)
-    (λ i l. ap (λ (t : ℤ). t *ℤ g i) (term-off p s i (λ e. omega (arith, e))) ∙ zero-*ℤ (g i))
-    ∙ sum-zero n
-
--- a sum with one term alone
-only : (n p : ℕ) (s : ℤ) (g : ℕ → ℤ) → p < n → sum n (λ i. term p s i *ℤ g i) ≡ s *ℤ g p
-unfolding sum
-only zero p s g h = absurd (omega arith)
-only (suc n) p s g h =
-    ⊎-elim
-    (λ l. ap₂ _+ℤ_ (only n p s g l) (ap (λ (t : ℤ). t *ℤ g n) (term-off p s n (λ e. omega (arith, e))) ∙ zero-*ℤ (g n)) ∙ +ℤ-idr (s *ℤ g p))
-    (λ l. ap₂ _+ℤ_ (none n p s g l) (last (omega arith)) ∙ +ℤ-idl (s *ℤ g p)) (lt-or-le p n)
-  where
-    last : n ≡ p → term p s n *ℤ g n ≡ s *ℤ g p
-    last e = rw e (ap (λ (t : ℤ). t *ℤ g p) (term-at p s))
-
-sparse-mul : (n : ℕ) (f : Poly) (ps : List ℕ) (ss : List ℤ) (k : ℕ) → Below n ps → mul n (sparse ps ss) f k ≡ turns n f ps ss k
-unfolding mul sparse turns
-sparse-mul n f [] ss k b = sum-ext n (λ i. pos 0 *ℤ turn n i f k) (λ i. pos 0) (λ i l. zero-*ℤ (turn n i f k)) ∙ sum-zero n
-sparse-mul n f (p ∷ ps) [] k b = sum-ext n (λ i. pos 0 *ℤ turn n i f k) (λ i. pos 0) (λ i l. zero-*ℤ (turn n i f k)) ∙ sum-zero n
-sparse-mul n f (p ∷ ps) (s ∷ ss) k b =
-    mul-add n (term p s) (sparse ps ss) f k
-    ∙ ap₂ _+ℤ_ (only n p s (λ i. turn n i f k) (b .at 0 (omega arith))) (sparse-mul n f ps ss k (below-tail b))
-
-pub mul-sparse : (n : ℕ) (f : Poly) (ps : List ℕ) (ss : List ℤ) (k : ℕ) → k < n → Below n ps → mul n f (sparse ps ss) k ≡ turns n f ps ss k
-mul-sparse n f ps ss k h b = mul-comm n f (sparse ps ss) k h ∙ sparse-mul n f ps ss k b

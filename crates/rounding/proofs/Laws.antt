@@ -13,10 +13,13 @@ use mir.Syntax.{w32}
 use mir.Val.{toZ, SFits}
 use mir.Facts.{toZ-pos}
 use Rattle.whole.specs.Int.{up, down, int, sum-is, minus-is, up-neg, down-neg, abs-is, abs-neg, one-part, lt-or-le, *ℤ-neg}
-use Rattle.whole.specs.Residue.{residue, Same, same-refl, same-neg, same-trans}
-use Rattle.whole.specs.Twos.{halves}
-use Rattle.rounding.specs.Centred.{centred, Central, centred-central, centred-same, centred-is, centred-self, central-abs}
-use Rattle.rounding.specs.Parts.{low, high, high-is, low-central}
+use Rattle.whole.specs.Residue.{residue, Same}
+use Rattle.whole.specs.ResidueLaws.{same-refl, same-neg, same-trans}
+use Rattle.whole.specs.TwosLaws.{halves}
+use Rattle.rounding.specs.Centred.{centred, Central}
+use Rattle.rounding.specs.CentredLaws.{centred-central, centred-same, centred-is, centred-self, central-abs}
+use Rattle.rounding.specs.Parts.{low, high}
+use Rattle.rounding.specs.PartsLaws.{high-is, low-central}
 use Rattle.rounding.specs.Tests.{Rounds, Half}
 
 -- ---- a residue's centred remainder

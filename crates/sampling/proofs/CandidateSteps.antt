@@ -6,7 +6,8 @@ use native.Mathlib.Nat.{le-of-eq, div-mul-le-self, mul-le-mul-left, le-refl, mul
 use native.Mathlib.Omega.{arith}
 use lib.ListN.{length, getD, take, drop, length-drop, drop-of-length-le}
 use lib.Pow.{pow-mono}
-use Rattle.whole.specs.Below.{Below, below-drop, below-part}
+use Rattle.whole.specs.Below.{Below}
+use Rattle.whole.specs.BelowLaws.{below-drop, below-part}
 use Rattle.whole.specs.Parts.{part-length, part-at}
 use Rattle.packing.specs.Digits.{value}
 use Rattle.packing.specs.Laws.{value-drop, value-below}

@@ -8,7 +8,8 @@ use mathlib.Core.List.{List, [], _∷_, _++_, map}
 use Prim.Native.Nat.{ℕ, _+_, _*_, _/_, _%_, _^_, _<_}
 use native.Mathlib.Omega.{arith}
 use lib.IntN.{ℤ}
-use Rattle.whole.specs.Below.{Below, below-append}
+use Rattle.whole.specs.Below.{Below}
+use Rattle.whole.specs.BelowLaws.{below-append}
 use Rattle.shake.specs.declared.Sponge.{Sponge}
 use Rattle.shake.specs.Sponge.{absorbed, squeezed}
 use Rattle.sets.specs.declared.Numbers.{Numbers}

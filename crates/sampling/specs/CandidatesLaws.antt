@@ -12,8 +12,10 @@ use native.Mathlib.Omega.{arith}
 use lib.ListN.{length, getD, length-append}
 use lib.Pow.{pow-pos}
 use Rattle.packing.specs.Digits.{value}
-use Rattle.whole.specs.Table.{table, length-table, getD-table, table-split, table-ext}
-use Rattle.whole.specs.Below.{Below, below-table}
+use Rattle.whole.specs.Table.{table}
+use Rattle.whole.specs.TableLaws.{length-table, getD-table, table-split, table-ext}
+use Rattle.whole.specs.Below.{Below}
+use Rattle.whole.specs.BelowLaws.{below-table}
 use Rattle.whole.specs.Parts.{part-first, part-second}
 use Rattle.whole.specs.Rows.{row-within}
 use Rattle.sampling.specs.Candidates.{held, piece, candidates}

@@ -22,8 +22,10 @@ use lib.IntN.{ℤ, pos, negsuc}
 use lib.ListN.{length, getD, length-append}
 use borrow.Author.Tests.{lt-ltb, le-ltb, ltb-false}
 use Rattle.ring.specs.Sparse.{Sign}
-use Rattle.whole.specs.Below.{Below, below-cons, below-tail, below-table}
-use Rattle.whole.specs.Table.{table, length-table, getD-table, map-table}
+use Rattle.whole.specs.Below.{Below}
+use Rattle.whole.specs.BelowLaws.{below-cons, below-tail, below-table}
+use Rattle.whole.specs.Table.{table}
+use Rattle.whole.specs.TableLaws.{length-table, getD-table, map-table}
 use Rattle.sampling.specs.Candidates.{emit, held, piece}
 use Rattle.sampling.specs.CandidatesLaws.{pieces-append}
 use Rattle.sampling.specs.Positions.{Drawn, isIn, free, takesPosition, positions, positionsOf, signsOf, signOf, drawnCandidates}

@@ -8,9 +8,11 @@ use mathlib.Core.List.{List}
 use Prim.Native.Nat.{ℕ}
 use native.Mathlib.Omega.{arith}
 use lib.ListN.{length}
-use Rattle.whole.specs.Below.{Below, below-take}
+use Rattle.whole.specs.Below.{Below}
+use Rattle.whole.specs.BelowLaws.{below-take}
 use Rattle.ring.specs.Product.{Poly}
-use Rattle.ring.specs.Lists.{residues, length-residues, residues-below}
+use Rattle.ring.specs.Lists.{residues}
+use Rattle.ring.specs.ListsLaws.{length-residues, residues-below}
 use Rattle.ring.specs.Asks.{Factors}
 use Rattle.sets.specs.declared.Numbers.{Numbers}
 use Rattle.sets.specs.Good.{Good}

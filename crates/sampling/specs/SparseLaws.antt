@@ -11,9 +11,11 @@ use lib.IntN.{ℤ, pos, natAbs, _+ℤ_, +ℤ-idl, +ℤ-idr}
 use lib.ListN.{length}
 use borrow.Author.Tests.{eqb-true, eqb-false}
 use Rattle.whole.specs.Int.{lt-or-le, abs-sum}
-use Rattle.whole.specs.Below.{below-tail}
-use Rattle.whole.specs.Sum.{total, total-zero, total-add, total-le}
-use Rattle.ring.specs.Sparse.{term, sparse, Signed, sign-size, term-at, term-off}
+use Rattle.whole.specs.BelowLaws.{below-tail}
+use Rattle.whole.specs.Sum.{total}
+use Rattle.whole.specs.SumLaws.{total-zero, total-add, total-le}
+use Rattle.ring.specs.Sparse.{term, sparse, Signed}
+use Rattle.ring.specs.SparseLaws.{sign-size, term-at, term-off}
 use Rattle.sampling.specs.Positions.{isIn}
 use Rattle.sampling.specs.FreeLaws.{Distinct, distinct-tail, distinct-head}
 

@@ -14,9 +14,10 @@ use native.Mathlib.Omega.{arith}
 use lib.IntN.{pos, natAbs, _-ℤ_}
 use lib.ListN.{length, getD, length-map}
 use Rattle.whole.specs.Int.{minus-is, abs-le-from}
-use Rattle.whole.specs.Below.{Below, below-tail, below-table, below-more, below-part}
+use Rattle.whole.specs.Below.{Below}
+use Rattle.whole.specs.BelowLaws.{below-tail, below-table, below-more, below-part}
 use Rattle.whole.specs.Sum.{total}
-use Rattle.whole.specs.Table.{length-table}
+use Rattle.whole.specs.TableLaws.{length-table}
 use Rattle.whole.specs.Parts.{part-length}
 use Rattle.whole.specs.Rows.{row-within}
 use Rattle.shake.specs.Sponge.{byteAt}

@@ -18,7 +18,8 @@ use lib.Dec.{ltb}
 use lib.IntN.{ℤ, pos, _-ℤ_}
 use lib.ListN.{length, length-append}
 use borrow.Author.Tests.{lt-ltb, le-ltb, ltb-true, ltb-false}
-use Rattle.whole.specs.Below.{Below, below-cons, below-tail, below-none}
+use Rattle.whole.specs.Below.{Below}
+use Rattle.whole.specs.BelowLaws.{below-cons, below-tail, below-none}
 use Rattle.sampling.specs.Candidates.{emit}
 use Rattle.sampling.specs.Values.{takesValue, reduced, values}
 

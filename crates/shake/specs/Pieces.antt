@@ -16,7 +16,8 @@ use native.Mathlib.Omega.{arith}
 use lib.Dec.{eqb, ltb, lit<}
 use lib.ListN.{length}
 use borrow.Author.Tests.{ltb-true, eqb-false, lt-ltb}
-use Rattle.whole.specs.Below.{Below, below-cons}
+use Rattle.whole.specs.Below.{Below}
+use Rattle.whole.specs.BelowLaws.{below-cons}
 use Rattle.keccak.specs.Steps.{keccakF}
 use Rattle.shake.specs.declared.Sponge.{Sponge}
 use Rattle.shake.specs.Sponge.{rate, byteAt, blank, passed, absorbable, absorbByte, absorbAll, absorbed, ended, squeezable, squeezeNext, bytesOf, stateAfter, squeezed, afterSqueeze}

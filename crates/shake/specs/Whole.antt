@@ -16,9 +16,11 @@ use lib.ListN.{length, getD, take, drop, replicate, length-append, length-set, l
 use lib.Pow.{pow-add, pow-pos}
 use lib.Seq.{set-getD, set-set, getD-set-same, getD-drop, take-all, take-append-le, drop-append-le}
 use borrow.Author.Tests.{eqb-true, eqb-false, ne-eqb}
-use Rattle.whole.specs.Below.{Below, below-tail, below-append, below-cons, below-take, below-drop, below-none, below-zeros}
+use Rattle.whole.specs.Below.{Below}
+use Rattle.whole.specs.BelowLaws.{below-tail, below-append, below-cons, below-take, below-drop, below-none, below-zeros}
 use Rattle.whole.specs.Bits.{xor-assoc, xor-parts}
-use Rattle.whole.specs.Table.{row, table-is}
+use Rattle.whole.specs.Table.{row}
+use Rattle.whole.specs.TableLaws.{table-is}
 use Rattle.keccak.specs.Steps.{keccakF}
 use Rattle.keccak.proofs.Rounds.{length-keccakF}
 use Rattle.shake.specs.declared.Sponge.{Sponge}

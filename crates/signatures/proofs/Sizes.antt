@@ -17,7 +17,8 @@ use mir.Facts.{toZ-ofZ, fits-natAbs}
 use Rattle.whole.specs.Int.{not-negative-is}
 use Rattle.whole.specs.Every.{every}
 use Rattle.whole.specs.EveryLaws.{Passing, passing-none, passing-more, passing-fails, passing-all}
-use Rattle.whole.specs.Twos.{signed, size-low, size-high}
+use Rattle.whole.specs.Twos.{signed}
+use Rattle.whole.specs.TwosLaws.{size-low, size-high}
 use Rattle.whole.specs.Words.{read-i64, one-shifted}
 use Rattle.rounding.specs.Tests.{zPasses}
 use Rattle.sets.specs.declared.Numbers.{Numbers}

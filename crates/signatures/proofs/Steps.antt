@@ -14,7 +14,8 @@ use Rattle.whole.specs.Below.{Below}
 use Rattle.whole.specs.Parts.{part-length}
 use Rattle.whole.specs.Written.{written-length, lent-rest, put-rest}
 use Rattle.whole.specs.Every.{every}
-use Rattle.whole.specs.Twos.{signed, twos, twos-all-below}
+use Rattle.whole.specs.Twos.{signed, twos}
+use Rattle.whole.specs.TwosLaws.{twos-all-below}
 use Rattle.answers.specs.Tests.{Answered}
 use Rattle.answers.specs.TestLaws.{AllPass, all-passed}
 use Rattle.rounding.specs.Tests.{zPasses}

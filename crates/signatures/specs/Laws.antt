@@ -12,9 +12,11 @@ use lib.ListN.{length, getD, length-append, length-map}
 use lib.Seq.{take-all}
 use borrow.Author.Tests.{eq-eqb, eqb-true, leb-true}
 use Rattle.whole.specs.Int.{abs-le-to}
-use Rattle.whole.specs.Below.{Below, below-part}
+use Rattle.whole.specs.Below.{Below}
+use Rattle.whole.specs.BelowLaws.{below-part}
 use Rattle.whole.specs.Parts.{part-length, part-piece, part-last, part-second, parts-join}
-use Rattle.whole.specs.Twos.{InBits, signed, twos, twos-all-below}
+use Rattle.whole.specs.Twos.{InBits, signed, twos}
+use Rattle.whole.specs.TwosLaws.{twos-all-below}
 use Rattle.whole.specs.Every.{every}
 use Rattle.whole.specs.EveryLaws.{every-at}
 use Rattle.answers.specs.Tests.{answer}

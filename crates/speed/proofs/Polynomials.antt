@@ -8,7 +8,7 @@ use native.Mathlib.Omega.{arith}
 use lib.Dec.{eqb}
 use lib.ListN.{length, drop, drop-of-length-le}
 use borrow.Author.Tests.{eqb-true}
-use Rattle.whole.specs.Below.{below-more}
+use Rattle.whole.specs.BelowLaws.{below-more}
 use Rattle.whole.specs.EveryLaws.{same-first, same-rest, both-first, both-second}
 use Rattle.packing.specs.Digits.{Packs, Unpacks, packed, unpacked, bytesFor}
 use Rattle.ring.specs.Asks.{Factors}

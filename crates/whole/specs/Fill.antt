@@ -12,7 +12,8 @@ use mathlib.Core.Path.{_≡_, refl, sym, ap, _∙_}
 use mathlib.Core.List.{List, [], _∷_, _++_, map, append-nil}
 use Prim.Native.Nat.{ℕ, zero, suc, _+_, _≤_, _<_, zero-le}
 use native.Mathlib.Omega.{arith}
-use Rattle.whole.specs.Table.{row, table, length-table, table-suc, table-getD, map-table}
+use Rattle.whole.specs.Table.{row, table}
+use Rattle.whole.specs.TableLaws.{length-table, table-suc, table-getD, map-table}
 use native.Mathlib.Nat.{add-zero, not-suc-le-zero, le-of-suc-le-suc, le-of-eq, le-antisymm}
 use native.Mathlib.Numerals.{add-one}
 use lib.ListN.{length, getD, take, drop, set, length-set, length-map, List·getD-map}

@@ -11,7 +11,8 @@ use mir.Syntax.{Width}
 use mir.Val.{hbits, bits, Fits, SFits, toZ, ofZ}
 use mir.Facts.{toZ-ofZ}
 use Rattle.whole.specs.Int.{int, sum-is}
-use Rattle.whole.specs.Residue.{residue, residue-eq}
+use Rattle.whole.specs.Residue.{residue}
+use Rattle.whole.specs.ResidueLaws.{residue-eq}
 use Rattle.whole.specs.Words.{read-wide}
 
 -- z + m, where it is not negative

@@ -1,7 +1,8 @@
 -- `highs::hash` meets its contract. Assumes nothing.
 use borrow.Author.Needs.{needs}
 use Rattle.highs.proofs.Steps.{highs-hashed}
-use Rattle.whole.specs.Below.{Below, below-bytes}
+use Rattle.whole.specs.Below.{Below}
+use Rattle.whole.specs.BelowLaws.{below-bytes}
 use Rattle.highs.proofs.hash.Statement.{statement}
 use Rattle.highs.proofs.hash.Tie as tie
 

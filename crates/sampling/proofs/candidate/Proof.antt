@@ -3,7 +3,8 @@
 use Prim.Native.Nat.{_+_, _-_, _*_, _^_, _<_}
 use native.Mathlib.Omega.{arith}
 use borrow.Author.Needs.{needs}
-use Rattle.whole.specs.Below.{Below, below-bytes}
+use Rattle.whole.specs.Below.{Below}
+use Rattle.whole.specs.BelowLaws.{below-bytes}
 use Rattle.sampling.proofs.CandidateSteps.{held-room, Reading, reading-none, reading-more, reading-small, reading-all}
 use Rattle.sampling.proofs.candidate.Statement.{statement}
 use Rattle.sampling.proofs.candidate.Tie as tie

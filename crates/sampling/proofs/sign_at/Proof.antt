@@ -1,5 +1,6 @@
 -- `sampling::sign_at` meets its contract. Assumes nothing.
-use Rattle.whole.specs.Below.{Below, below-bytes}
+use Rattle.whole.specs.Below.{Below}
+use Rattle.whole.specs.BelowLaws.{below-bytes}
 use Rattle.sampling.proofs.PositionSteps.{sign-set, sign-clear}
 use borrow.Author.Needs.{needs}
 use Rattle.sampling.proofs.sign_at.Statement.{statement}

@@ -3,7 +3,7 @@
 use mathlib.Core.Path.{ap, _∙_}
 use borrow.Author.Needs.{needs}
 use lib.ListN.{length}
-use Rattle.whole.specs.Below.{below-bytes}
+use Rattle.whole.specs.BelowLaws.{below-bytes}
 use Rattle.shake.specs.declared.Sponge.{Sponge}
 use Rattle.shake.specs.Sponge.{absorbed, squeezed}
 use Rattle.shake.specs.Whole.{shake}

@@ -4,7 +4,7 @@ use borrow.Author.Needs.{needs}
 use Prim.Native.Nat.{_-_}
 use native.Mathlib.Omega.{arith}
 use lib.ListN.{length, getD}
-use Rattle.whole.specs.Below.{below-at}
+use Rattle.whole.specs.BelowLaws.{below-at}
 use Rattle.whole.specs.Fill.{Wrote, wrote-none, wrote-more, wrote-map}
 use Rattle.whole.specs.Twos.{signed}
 use Rattle.packing.proofs.twos.from_bits.Statement.{statement}

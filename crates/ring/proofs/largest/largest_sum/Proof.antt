@@ -1,6 +1,6 @@
 -- `ring::largest::largest_sum` meets its contract. Assumes nothing.
 use borrow.Author.Needs.{needs}
-use Rattle.whole.specs.Below.{below-bytes}
+use Rattle.whole.specs.BelowLaws.{below-bytes}
 use Rattle.ring.proofs.Places.{addable}
 use Rattle.ring.proofs.largest.largest_sum.Statement.{statement}
 use Rattle.ring.proofs.largest.largest_sum.Tie as tie

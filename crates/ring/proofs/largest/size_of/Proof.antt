@@ -1,6 +1,6 @@
 -- `ring::largest::size_of` meets its contract. Assumes nothing.
 use borrow.Author.Needs.{needs}
-use Rattle.whole.specs.Twos.{size-low, size-high}
+use Rattle.whole.specs.TwosLaws.{size-low, size-high}
 use Rattle.ring.proofs.largest.size_of.Statement.{statement}
 use Rattle.ring.proofs.largest.size_of.Tie as tie
 

@@ -6,7 +6,7 @@ use lib.ListN.{length}
 use Rattle.ring.specs.Lists.{signedBytes}
 use mir.Syntax.{w32}
 use mir.Val.{toZ}
-use Rattle.whole.specs.Below.{below-at}
+use Rattle.whole.specs.BelowLaws.{below-at}
 use Rattle.ring.proofs.SparseLaws.{ByteSummed, byte-summed-none, byte-summed-fits, byte-summed-next, byte-summed-all, sign-at, sign-as-read}
 use Rattle.ring.proofs.sparse.byte_row.Statement.{statement}
 use Rattle.ring.proofs.sparse.byte_row.Tie as tie

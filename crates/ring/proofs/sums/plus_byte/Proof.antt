@@ -5,7 +5,8 @@ use native.Mathlib.Omega.{arith}
 use mir.Syntax.{w32}
 use mir.Val.{toZ, ofZ}
 use mir.Facts.{toZ-ofZ}
-use Rattle.whole.specs.Twos.{signed, signed-size}
+use Rattle.whole.specs.Twos.{signed}
+use Rattle.whole.specs.TwosLaws.{signed-size}
 use Rattle.ring.proofs.sums.plus_byte.Statement.{statement}
 use Rattle.ring.proofs.sums.plus_byte.Tie as tie
 

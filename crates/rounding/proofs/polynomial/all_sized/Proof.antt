@@ -5,7 +5,7 @@ use Prim.Native.Nat.{_-_}
 use native.Mathlib.Omega.{arith}
 use lib.ListN.{length}
 use lib.IntN.{pos}
-use Rattle.whole.specs.Below.{below-at}
+use Rattle.whole.specs.BelowLaws.{below-at}
 use Rattle.whole.specs.EveryLaws.{Passing, passing-none, passing-stops, passing-goes, passing-all}
 use Rattle.rounding.specs.Tests.{sizePasses}
 use Rattle.rounding.proofs.polynomial.all_sized.Statement.{statement}

@@ -9,7 +9,7 @@ use lib.IntN.{pos}
 use mir.Syntax.{w32}
 use mir.Val.{toZ, ofZ}
 use mir.Facts.{toZ-ofZ}
-use Rattle.whole.specs.Below.{below-at}
+use Rattle.whole.specs.BelowLaws.{below-at}
 use Rattle.whole.specs.Fill.{Wrote, wrote-none, wrote-more, wrote-map}
 use Rattle.whole.specs.Twos.{twos}
 use Rattle.rounding.specs.Parts.{high}

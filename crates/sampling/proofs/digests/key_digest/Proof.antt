@@ -1,6 +1,7 @@
 -- `sampling::digests::key_digest` meets its contract: stream 5 of the packed t_1..t_k. Assumes nothing.
 use borrow.Author.Needs.{needs}
-use Rattle.whole.specs.Below.{Below, below-bytes}
+use Rattle.whole.specs.Below.{Below}
+use Rattle.whole.specs.BelowLaws.{below-bytes}
 use Rattle.sampling.proofs.StreamSteps.{key-digested}
 use Rattle.sampling.proofs.digests.key_digest.Statement.{statement}
 use Rattle.sampling.proofs.digests.key_digest.Tie as tie

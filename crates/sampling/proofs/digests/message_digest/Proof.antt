@@ -1,6 +1,7 @@
 -- `sampling::digests::message_digest` meets its contract: stream 4 of the message. Assumes nothing.
 use borrow.Author.Needs.{needs}
-use Rattle.whole.specs.Below.{Below, below-bytes}
+use Rattle.whole.specs.Below.{Below}
+use Rattle.whole.specs.BelowLaws.{below-bytes}
 use Rattle.sampling.proofs.StreamSteps.{message-digested}
 use Rattle.sampling.proofs.digests.message_digest.Statement.{statement}
 use Rattle.sampling.proofs.digests.message_digest.Tie as tie

@@ -1,6 +1,7 @@
 -- `sampling::digests::rand_of` meets its contract: stream 3 of seed_y, r and G of the message. Assumes nothing.
 use borrow.Author.Needs.{needs}
-use Rattle.whole.specs.Below.{Below, below-bytes}
+use Rattle.whole.specs.Below.{Below}
+use Rattle.whole.specs.BelowLaws.{below-bytes}
 use Rattle.sampling.proofs.StreamSteps.{rand-made}
 use Rattle.sampling.proofs.digests.rand_of.Statement.{statement}
 use Rattle.sampling.proofs.digests.rand_of.Tie as tie

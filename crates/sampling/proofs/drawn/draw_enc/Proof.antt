@@ -1,7 +1,8 @@
 -- `sampling::drawn::draw_enc` meets its contract: stream 7 of c'. Assumes nothing.
 use native.Mathlib.Omega.{arith}
 use borrow.Author.Needs.{needs}
-use Rattle.whole.specs.Below.{Below, below-bytes}
+use Rattle.whole.specs.Below.{Below}
+use Rattle.whole.specs.BelowLaws.{below-bytes}
 use Rattle.sets.specs.GoodLaws.{n-few}
 use Rattle.sampling.proofs.StreamSteps.{enc-drawn}
 use Rattle.sampling.proofs.drawn.draw_enc.Statement.{statement}

@@ -1,6 +1,7 @@
 -- `sampling::drawn::draw_y` meets its contract: stream 2 of rand and the counter. Assumes nothing.
 use borrow.Author.Needs.{needs}
-use Rattle.whole.specs.Below.{Below, below-bytes}
+use Rattle.whole.specs.Below.{Below}
+use Rattle.whole.specs.BelowLaws.{below-bytes}
 use Rattle.sampling.proofs.StreamSteps.{y-drawn, y-less}
 use Rattle.sampling.proofs.drawn.draw_y.Statement.{statement}
 use Rattle.sampling.proofs.drawn.draw_y.Tie as tie

@@ -1,6 +1,7 @@
 -- `sampling::drawn::start_a` meets its contract: the fresh state of stream 1 absorbs seed_a. Assumes nothing.
 use borrow.Author.Needs.{needs}
-use Rattle.whole.specs.Below.{Below, below-bytes}
+use Rattle.whole.specs.Below.{Below}
+use Rattle.whole.specs.BelowLaws.{below-bytes}
 use Rattle.sampling.specs.DrawALaws.{few-values, few-candidates, started-a}
 use Rattle.sampling.proofs.drawn.start_a.Statement.{statement}
 use Rattle.sampling.proofs.drawn.start_a.Tie as tie
