@@ -78,6 +78,7 @@ module _ (s : Numbers) (team : ℕ) (roster signature : List ℕ) where
 
   -- ---- an envelope around a signature that checking accepts is opened
 
+  -- its head passes
   pub envelope-head : length signature ≡ signatureBytes s → length roster ≤ messageLimit → answer (headTests s (envelopeOf s team roster signature)) ≡ 0
   unfolding headTests AllPass
   envelope-head e short =

@@ -1,22 +1,23 @@
 // The roster program. Standard input is a public record, then an envelope. It writes one line: REFUSED with the number, or the team
 // number and the roster's length of an envelope that is accepted.
+use answers::Answer;
 use envelope::Opened;
 use sets::SetI;
-ghost use mathlib.Core.Path.{_≡_};
-ghost use Rattle.answers.specs.Tests.{answer, after};
-ghost use Rattle.envelope.specs.Answers.{openedNumber, openedTeam, openedLength};
-ghost use Rattle.envelope.specs.Envelope.{lengthOf, teamAnswered};
+ghost use Rattle.answers.specs.Answers.{numberOf};
+ghost use Rattle.envelope.specs.Promises.{Opens};
 ghost use Rattle.roster.specs.Program.{programTests, envelopePart};
 
 // Opens what follows the public record in the input.
 fn open_input(input: &[u8]) -> Opened
-    ensures number { λ r. ⌜ openedNumber r ≡ answer (programTests (now (input .entry))) ⌝ }
-    ensures team { λ r. ⌜ openedTeam r ≡ teamAnswered (answer (programTests (now (input .entry)))) (envelopePart (now (input .entry))) ⌝ }
-    ensures len { λ r. ⌜ openedLength r ≡ after (answer (programTests (now (input .entry)))) (lengthOf (envelopePart (now (input .entry)))) 0 ⌝ }
+    ensures { λ r. ⌜ Opens (programTests (now (input .entry))) (envelopePart (now (input .entry))) (numberOf (r .answer)) (r .team) (r .len) ⌝ }
 {
     let end = records::public::public_bytes(SetI::numbers());
     if input.len() < end {
-        return Opened::Length;
+        return Opened {
+            answer: Answer::Length,
+            team: 0,
+            len: 0,
+        };
     }
     envelope::open(&input[..end], &input[end..])
 }
@@ -39,9 +40,10 @@ fn print_roster(team: u16, len: usize) {
 
 // Writes the line of an answer.
 fn print_answer(opened: Opened) {
-    let number = opened.number();
+    let answer = opened.answer;
+    let number = answer.number();
     if number == 0 {
-        print_roster(opened.team(), opened.len());
+        print_roster(opened.team, opened.len);
     } else {
         print_refused(number);
     }
