@@ -6,7 +6,6 @@ ghost use mathlib.Core.Path.{_≡_};
 ghost use mathlib.Core.List.{[], _∷_};
 ghost use Prim.Native.Nat.{_+_, _*_};
 ghost use lib.Dec.{eqb, leb};
-ghost use lib.ListN.{getD};
 ghost use Rattle.answers.specs.Answers.{numberOf};
 ghost use Rattle.answers.specs.Tests.{_orElse_, Answered};
 ghost use Rattle.sets.specs.Good.{Good};
@@ -15,13 +14,6 @@ ghost use Rattle.envelope.specs.Envelope.{envelopeBytes, teamOf, lengthO
 
 // The bytes before the roster.
 pub(crate) const HEAD_BYTES: usize = 6;
-
-// The byte at index i, and 0 past the last one.
-fn byte_at(bytes: &[u8], i: usize) -> u8
-    ensures { λ r. ⌜ r ≡ getD (now (bytes .entry)) i 0 ⌝ }
-{
-    if i < bytes.len() { bytes[i] } else { 0 }
-}
 
 // The number of two bytes, low first.
 fn number(low: u8, high: u8) -> u16
@@ -34,14 +26,14 @@ fn number(low: u8, high: u8) -> u16
 pub(crate) fn team_of(envelope: &[u8]) -> u16
     ensures { λ r. ⌜ r ≡ teamOf (now (envelope .entry)) ⌝ }
 {
-    number(byte_at(envelope, 2), byte_at(envelope, 3))
+    number(pieces::byte_at(envelope, 2), pieces::byte_at(envelope, 3))
 }
 
 // L, the roster's length.
 pub(crate) fn length_of(envelope: &[u8]) -> usize
     ensures { λ r. ⌜ r ≡ lengthOf (now (envelope .entry)) ⌝ }
 {
-    number(byte_at(envelope, 4), byte_at(envelope, 5)) as usize
+    number(pieces::byte_at(envelope, 4), pieces::byte_at(envelope, 5)) as usize
 }
 
 // Whether total is the length of an envelope around a roster of len bytes, by a difference: no sum with len is made.

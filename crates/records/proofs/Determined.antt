@@ -18,6 +18,8 @@ use Rattle.records.proofs.pieces.copy_out.Kinds as pieces-copy-out-kind
 use Rattle.records.proofs.pieces.copy_out.Reads as pieces-copy-out
 use Rattle.records.proofs.pieces.write_mark.Kinds as pieces-write-mark-kinds
 use Rattle.records.proofs.pieces.write_mark.Reads as pieces-write-mark
+use Rattle.records.proofs.pieces.byte_at.Kinds as pieces-byte-at-kinds
+use Rattle.records.proofs.pieces.byte_at.Reads as pieces-byte-at
 use Rattle.records.proofs.pieces.is_marked.Kinds as pieces-is-marked-kinds
 use Rattle.records.proofs.pieces.is_marked.Reads as pieces-is-marked
 use Rattle.records.proofs.public.t_bytes.Kinds as public-t-bytes-kinds
@@ -100,6 +102,9 @@ pieces-copy-out-to κs a x y e f p q = p ∙ sym q
 
 pub pieces-write-mark-out : Output 1 pieces-write-mark-kinds.ps pieces-write-mark-kinds.r pieces-write-mark.Learnt (λ κs e. now (e .1 .1 .0))
 pieces-write-mark-out κs a x y e f p q = p ∙ sym q
+
+pub pieces-byte-at-determined : Result 1 pieces-byte-at-kinds.ps pieces-byte-at-kinds.r pieces-byte-at.Learnt
+pieces-byte-at-determined κs a x y e f p q = p ∙ sym q
 
 pub pieces-is-marked-determined : Result 1 pieces-is-marked-kinds.ps pieces-is-marked-kinds.r pieces-is-marked.Learnt
 pieces-is-marked-determined κs a x y e f p q = p ∙ sym q

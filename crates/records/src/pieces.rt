@@ -46,7 +46,7 @@ pub fn write_mark(set: sets::Numbers, j: u8, out: &mut [u8])
 }
 
 // The byte at index i, and 0 past the last one.
-fn byte_at(bytes: &[u8], i: usize) -> u8
+pub fn byte_at(bytes: &[u8], i: usize) -> u8
     ensures { λ r. ⌜ r ≡ getD (now (bytes .entry)) i 0 ⌝ }
 {
     if i < bytes.len() { bytes[i] } else { 0 }
