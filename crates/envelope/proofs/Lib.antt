@@ -1,6 +1,5 @@
 pub mod Determined
-pub mod HeadLaws
-pub mod OpenLaws
+pub mod HeadSteps
 pub mod PartLaws
-pub mod ReadLaws
-pub mod WriteLaws
+pub mod ReadSteps
+pub mod WriteSteps

@@ -1,13 +1,15 @@
 -- Stretches of lent bytes where the bytes are fewer, and the signature record as a stretch of what follows the head.
 -- Assumes nothing.
-use mathlib.Core.Path.{_≡_, sym, ap, _∙_}
+use mathlib.Core.Path.{_≡_, sym, ap, ap₂, _∙_}
 use mathlib.Core.List.{List, []}
 use Prim.Native.Nat.{ℕ, _+_, _-_, _≤_}
 use native.Mathlib.Omega.{arith}
 use lib.ListN.{length, take, drop, length-drop, drop-of-length-le}
 use lib.Seq.{take-all, drop-drop}
 use Rattle.whole.specs.Written.{lent-rest}
-use Rattle.records.specs.Layout.{stretch}
+use Rattle.sets.specs.declared.Numbers.{Numbers}
+use Rattle.records.specs.Layout.{stretch, signatureBytes}
+use Rattle.envelope.specs.Envelope.{headBytes}
 
 module _ {A : Type 0} (start size : ℕ) (bytes : List A) where
   -- the bytes end before
@@ -18,9 +20,9 @@ module _ {A : Type 0} (start size : ℕ) (bytes : List A) where
   pub stretch-none : length bytes ≤ start → [] ≡ stretch start size bytes
   stretch-none l = sym (ap (take size) (drop-of-length-le bytes l) ∙ take-all size [] (omega arith))
 
--- a stretch of what follows the first a
-pub stretch-after : {A : Type 0} (a start size : ℕ) (bytes : List A) {body out : List A} → body ≡ stretch a (length bytes) bytes
-    → out ≡ stretch start size body → out ≡ stretch (a + start) size bytes
-stretch-after a start size bytes e f =
-    f ∙ ap (stretch start size) (e ∙ take-all (length bytes) (drop a bytes) (omega (arith, length-drop a bytes)))
-    ∙ ap (take size) (drop-drop start a bytes)
+-- the signature record as a stretch of what follows the head
+pub signature-after : (s : Numbers) (envelope : List ℕ) (len : ℕ) {size : ℕ} {body out : List ℕ} → size ≡ signatureBytes s
+    → body ≡ stretch headBytes (length envelope) envelope → out ≡ stretch len size body → out ≡ stretch (headBytes + len) (signatureBytes s) envelope
+signature-after s envelope len e f g =
+    g ∙ ap₂ (stretch len) e (f ∙ take-all (length envelope) (drop headBytes envelope) (omega (arith, length-drop headBytes envelope)))
+    ∙ ap (take (signatureBytes s)) (drop-drop len headBytes envelope)

@@ -1,7 +1,6 @@
 -- The envelope: mark 4, the team number and the roster's length L in two bytes each, low first, the roster, the signature record.
 -- The roster is the signed message.
 -- Assumes nothing: these are definitions.
-use mathlib.Core.Bool.{_&&_}
 use mathlib.Core.List.{List, [], _∷_, _++_}
 use Prim.Native.Nat.{ℕ, _+_, _*_}
 use lib.Dec.{eqb, leb}
@@ -66,7 +65,8 @@ openTests s public envelope = headTests s envelope ++ checkTests s public (roste
 -- writing: lengths, the signature's mark, the roster limit, the signature's z
 unfoldable pub writeTests : Numbers → List ℕ → List ℕ → ℕ → List Test
 writeTests s roster signature envelopeLength =
-    ((eqb (length signature) (signatureBytes s) && eqb envelopeLength (envelopeBytes s (length roster))) orElse 1)
+    (eqb (length signature) (signatureBytes s) orElse 1)
+    ∷ (eqb envelopeLength (envelopeBytes s (length roster)) orElse 1)
     ∷ (marked s 3 signature orElse 2)
     ∷ (leb (length roster) messageLimit orElse 3)
     ∷ (zInRange s (zOf s signature) orElse 9)

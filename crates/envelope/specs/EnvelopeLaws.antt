@@ -3,19 +3,18 @@
 -- accepts is opened (`envelope-opens`), and the roster that comes back is the stretch of the length that does (`roster-answered`).
 -- Assumes nothing.
 use mathlib.Core.Path.{_≡_, refl, sym, ap, ap₂, _∙_}
-use mathlib.Core.Bool.{Bool, true, _&&_}
+use mathlib.Core.Bool.{true}
 use mathlib.Core.List.{List, [], _∷_, _++_}
 use Prim.Native.Nat.{ℕ, zero, suc, _+_, _*_, _/_, _%_, _≤_, _<_}
 use native.Mathlib.Omega.{arith}
-use lib.Dec.{eqb, leb}
 use lib.ListN.{length, getD, take, drop, length-append}
 use lib.Seq.{take-all, take-at, drop-cons}
 use borrow.Author.Tests.{eq-eqb, eqb-true, le-leb, leb-true}
 use Rattle.whole.specs.Below.{Below}
 use Rattle.whole.specs.Parts.{part-length, part-second, part-last, parts-join}
+use Rattle.whole.specs.Every.{every}
 use Rattle.answers.specs.Tests.{answer, after}
-use Rattle.whole.specs.EveryLaws.{both-first, both-second}
-use Rattle.answers.specs.TestLaws.{answer-pass, answer-none, answer-first, answer-rest}
+use Rattle.answers.specs.TestLaws.{AllPass, numbered, all-pass, passes-all, answer-past}
 use Rattle.sets.specs.declared.Numbers.{Numbers}
 use Rattle.sets.specs.Limits.{messageLimit}
 use Rattle.sampling.specs.Streams.{twoBytes}
@@ -23,7 +22,13 @@ use Rattle.records.specs.Layout.{mark, marked, stretch, signatureBytes}
 use Rattle.records.specs.PublicLaws.{marked-mark, marked-front}
 use Rattle.signatures.specs.Signature.{zOf, zInRange}
 use Rattle.checking.specs.Check.{checkTests}
+use Rattle.envelope.specs.Asks.{Writable}
 use Rattle.envelope.specs.Envelope.{headBytes, envelopeBytes, envelopeOf, numberAt, teamOf, lengthOf, rosterOf, signatureOf, headTests, readTests, openTests, writeTests, rosterAnswered}
+
+-- no test of the head has the number 0
+pub head-numbered : (s : Numbers) (envelope : List ℕ) → numbered (headTests s envelope) ≡ true
+unfolding headTests every
+head-numbered s envelope = refl
 
 -- ---- what is written reads back
 
@@ -73,67 +78,56 @@ module _ (s : Numbers) (team : ℕ) (roster signature : List ℕ) where
 
   -- ---- an envelope around a signature that checking accepts is opened
 
+  pub envelope-head : length signature ≡ signatureBytes s → length roster ≤ messageLimit → answer (headTests s (envelopeOf s team roster signature)) ≡ 0
+  unfolding headTests AllPass
+  envelope-head e short =
+      let inside : length roster < 65536 = omega arith in
+      all-pass _ (
+        le-leb headBytes (length (envelopeOf s team roster signature)) (omega (arith, envelope-bytes e)),
+        (
+          envelope-marked,
+          (
+            le-leb (lengthOf (envelopeOf s team roster signature)) messageLimit (omega (arith, envelope-length inside)),
+            (eq-eqb _ _ (envelope-bytes e ∙ ap (envelopeBytes s) (sym (envelope-length inside))), tt),
+          ),
+        ),
+      )
+
   pub envelope-opens : (public : List ℕ) → length signature ≡ signatureBytes s → length roster ≤ messageLimit
       → answer (checkTests s public roster signature) ≡ 0 → answer (openTests s public (envelopeOf s team roster signature)) ≡ 0
-  unfolding openTests headTests
+  unfolding openTests
   envelope-opens public e short accepted =
-      answer-pass 1 _ (le-leb headBytes (length (envelopeOf s team roster signature)) (omega (arith, envelope-bytes e)))
-      ∙ answer-pass 2 _ envelope-marked
-      ∙ answer-pass 3 _ (le-leb (lengthOf (envelopeOf s team roster signature)) messageLimit (omega (arith, envelope-length (omega arith))))
-      ∙ answer-pass 1 _ (eq-eqb _ _ (envelope-bytes e ∙ ap (envelopeBytes s) (sym (envelope-length (omega arith)))))
+      answer-past (headTests s (envelopeOf s team roster signature)) _ (head-numbered s (envelopeOf s team roster signature)) (envelope-head e short)
       ∙ ap₂ (λ (m g : List ℕ). answer (checkTests s public m g)) (envelope-roster (omega arith)) (envelope-signature (omega arith) e)
       ∙ accepted
 
 -- ---- an envelope that was written is read
 
 -- what writing's tests say
-pub record Writable (s : Numbers) (roster signature : List ℕ) (envelopeLength : ℕ) : Type 0 where
-  pub signature-long : length signature ≡ signatureBytes s
-  pub envelope-long : envelopeLength ≡ envelopeBytes s (length roster)
-  pub signature-mark : marked s 3 signature ≡ true
-  pub short : length roster ≤ messageLimit
-  pub z-passes : zInRange s (zOf s signature) ≡ true
-
 pub writable : (s : Numbers) (roster signature : List ℕ) (envelopeLength : ℕ) → answer (writeTests s roster signature envelopeLength) ≡ 0 → Writable s roster signature envelopeLength
-unfolding writeTests
+unfolding writeTests AllPass every
 writable s roster signature envelopeLength h =
+    let p = passes-all (writeTests s roster signature envelopeLength) refl h in
     record {
-      signature-long = eqb-true (length signature) (signatureBytes s) (both-first b₁ b₂ lengths);
-      envelope-long = eqb-true envelopeLength (envelopeBytes s (length roster)) (both-second b₁ b₂ lengths);
-      signature-mark = answer-first _ 1 _ (answer-rest _ 0 _ h);
-      short = leb-true (length roster) messageLimit (answer-first (leb (length roster) messageLimit) 2 _ (answer-rest _ 1 _ (answer-rest _ 0 _ h)));
-      z-passes = answer-first _ 8 _ (answer-rest _ 2 _ (answer-rest _ 1 _ (answer-rest _ 0 _ h)));
+      signature-long = eqb-true _ _ (p .0);
+      envelope-long = eqb-true _ _ (p .1 .0);
+      signature-mark = p .1 .1 .0;
+      short = leb-true _ _ (p .1 .1 .1 .0);
+      z-passes = p .1 .1 .1 .1 .0;
     }
-  where
-    b₁ : Bool
-    b₁ = eqb (length signature) (signatureBytes s)
-
-    b₂ : Bool
-    b₂ = eqb envelopeLength (envelopeBytes s (length roster))
-
-    lengths : (b₁ && b₂) ≡ true
-    lengths = answer-first _ 0 _ h
 
 pub envelope-reads : (s : Numbers) (team : ℕ) (roster signature : List ℕ) (envelopeLength : ℕ)
     → answer (writeTests s roster signature envelopeLength) ≡ 0 → answer (readTests s (envelopeOf s team roster signature)) ≡ 0
-unfolding readTests headTests
+unfolding readTests AllPass
 envelope-reads s team roster signature envelopeLength h =
-    answer-pass 1 _ (le-leb headBytes (length (envelopeOf s team roster signature)) (omega (arith, envelope-bytes s team roster signature (w .signature-long))))
-    ∙ answer-pass 2 _ (envelope-marked s team roster signature)
-    ∙ answer-pass 3 _ (le-leb (lengthOf (envelopeOf s team roster signature)) messageLimit (omega (arith, envelope-length s team roster signature inside, w .short)))
-    ∙ answer-pass 1 _ (eq-eqb _ _ (envelope-bytes s team roster signature (w .signature-long) ∙ ap (envelopeBytes s) (sym (envelope-length s team roster signature inside))))
-    ∙ answer-pass 2 _ (ap (marked s 3) back-is ∙ w .signature-mark)
-    ∙ answer-pass 9 _ (ap (λ (x : List ℕ). zInRange s (zOf s x)) back-is ∙ w .z-passes)
-    ∙ answer-none
+    answer-past (headTests s (envelopeOf s team roster signature)) _ (head-numbered s (envelopeOf s team roster signature)) (envelope-head s team roster signature (w .signature-long) (w .short))
+    ∙ all-pass _ (ap (marked s 3) back-is ∙ w .signature-mark, (ap (λ (x : List ℕ). zInRange s (zOf s x)) back-is ∙ w .z-passes, tt))
   where
     w : Writable s roster signature envelopeLength
     w = writable s roster signature envelopeLength h
 
-    inside : length roster < 65536
-    inside = omega (arith, w .short)
-
     back-is : signatureOf s (envelopeOf s team roster signature) ≡ signature
-    back-is = envelope-signature s team roster signature inside (w .signature-long)
+    back-is = envelope-signature s team roster signature (omega (arith, w .short)) (w .signature-long)
 
 -- ---- what reads is what would be written
 
@@ -158,20 +152,21 @@ two-back a xs h b =
     high : numberAt a xs / 256 % 256 ≡ getD xs (suc a) 0
     high = rw (← next) (omega (arith, x-below, y-below))
 
--- the total of a head that passed
-pub envelope-total : (s : Numbers) (envelope : List ℕ) → answer (headTests s envelope) ≡ 0 → length envelope ≡ envelopeBytes s (lengthOf envelope)
-unfolding headTests
-envelope-total s envelope passed = eqb-true _ _ (answer-first _ 0 _ (answer-rest _ 2 _ (answer-rest _ 1 _ (answer-rest _ 0 _ passed))))
+-- the mark and the total of a head that passed
+module _ (s : Numbers) (envelope : List ℕ) (passed : answer (headTests s envelope) ≡ 0) where
+  is-marked : marked s 4 envelope ≡ true
+  unfolding headTests AllPass every
+  is-marked = passes-all (headTests s envelope) refl passed .1 .0
+
+  pub envelope-total : length envelope ≡ envelopeBytes s (lengthOf envelope)
+  unfolding headTests AllPass every
+  envelope-total = eqb-true _ _ (passes-all (headTests s envelope) refl passed .1 .1 .1 .0)
 
 module _ (s : Numbers) (envelope : List ℕ) (bytes : Below 256 envelope) (passed : answer (headTests s envelope) ≡ 0) where
-  is-marked : marked s 4 envelope ≡ true
-  unfolding headTests
-  is-marked = answer-first _ 1 _ (answer-rest _ 0 _ passed)
-
   pub envelope-again : envelopeOf s (teamOf envelope) (rosterOf envelope) (signatureOf s envelope) ≡ envelope
   unfolding envelopeOf teamOf rosterOf signatureOf lengthOf
   envelope-again =
-      ap₂ _++_ (marked-front s 4 envelope (omega (arith, envelope-total s envelope passed)) is-marked)
+      ap₂ _++_ (marked-front s 4 envelope (omega (arith, envelope-total s envelope passed)) (is-marked s envelope passed))
       (ap₂ _++_ (two-back 2 envelope (omega (arith, envelope-total s envelope passed)) bytes)
       (ap₂ _++_ (ap twoBytes roster-length ∙ two-back 4 envelope (omega (arith, envelope-total s envelope passed)) bytes)
       (parts-join headBytes (lengthOf envelope) (signatureBytes s) envelope)

@@ -1,3 +1,4 @@
-pub mod Answers
 pub mod Envelope
 pub mod EnvelopeLaws
+pub mod Asks
+pub mod Promises

@@ -1,35 +1,51 @@
 // The head of an envelope: the mark, the team number, the roster's length L; and opening's first four tests.
-use crate::ReadEnvelope;
+use answers::Answer;
 use records::pieces;
 use sets::Numbers;
 ghost use mathlib.Core.Path.{_≡_};
-ghost use Prim.Native.Nat.{_+_, _<_};
-ghost use lib.Dec.{eqb};
-ghost use lib.ListN.{length};
-ghost use Rattle.answers.specs.Tests.{answer, after};
+ghost use mathlib.Core.List.{[], _∷_};
+ghost use Prim.Native.Nat.{_+_, _*_};
+ghost use lib.Dec.{eqb, leb};
+ghost use lib.ListN.{getD};
+ghost use Rattle.answers.specs.Answers.{numberOf};
+ghost use Rattle.answers.specs.Tests.{_orElse_, Answered};
 ghost use Rattle.sets.specs.Good.{Good};
-ghost use Rattle.envelope.specs.Answers.{readEnvelopeNumber, readEnvelopeTeam, readEnvelopeLength};
-ghost use Rattle.envelope.specs.Envelope.{envelopeBytes, numberAt, lengthOf, headTests, teamAnswered};
+ghost use Rattle.sets.specs.Limits.{messageLimit};
+ghost use Rattle.envelope.specs.Envelope.{envelopeBytes, teamOf, lengthOf, headTests};
 
 // The bytes before the roster.
-pub const HEAD_BYTES: usize = 6;
+pub(crate) const HEAD_BYTES: usize = 6;
 
-fn wide(b: u8) -> u16
-    ensures { λ r. ⌜ (r ≡ b) × (r < 256) ⌝ }
+// The byte at index i, and 0 past the last one.
+fn byte_at(bytes: &[u8], i: usize) -> u8
+    ensures { λ r. ⌜ r ≡ getD (now (bytes .entry)) i 0 ⌝ }
 {
-    b as u16
+    if i < bytes.len() { bytes[i] } else { 0 }
 }
 
-// Two bytes at a place, low first.
-fn number_at(bytes: &[u8], at: usize) -> u16
-    requires { ⌜ at + 1 < length (now bytes) ⌝ }
-    ensures { λ r. ⌜ r ≡ numberAt at (now (bytes .entry)) ⌝ }
+// The number of two bytes, low first.
+fn number(low: u8, high: u8) -> u16
+    ensures { λ r. ⌜ r ≡ low + 256 * high ⌝ }
 {
-    wide(bytes[at]) + 256 * wide(bytes[at + 1])
+    (low as u16) + 256 * (high as u16)
+}
+
+// The team number.
+pub(crate) fn team_of(envelope: &[u8]) -> u16
+    ensures { λ r. ⌜ r ≡ teamOf (now (envelope .entry)) ⌝ }
+{
+    number(byte_at(envelope, 2), byte_at(envelope, 3))
+}
+
+// L, the roster's length.
+pub(crate) fn length_of(envelope: &[u8]) -> usize
+    ensures { λ r. ⌜ r ≡ lengthOf (now (envelope .entry)) ⌝ }
+{
+    number(byte_at(envelope, 4), byte_at(envelope, 5)) as usize
 }
 
 // Whether total is the length of an envelope around a roster of len bytes, by a difference: no sum with len is made.
-pub fn is_total(set: Numbers, len: usize, total: usize) -> bool
+pub(crate) fn is_total(set: Numbers, len: usize, total: usize) -> bool
     requires { ⌜ Good set ⌝ }
     ensures { λ r. ⌜ r ≡ eqb total (envelopeBytes set len) ⌝ }
 {
@@ -41,26 +57,30 @@ pub fn is_total(set: Numbers, len: usize, total: usize) -> bool
     }
 }
 
-// Opening's first four tests, in its own order: fewer than 6 bytes (1), the mark (2), L (3), the total (1).
-pub fn test_head(set: Numbers, envelope: &[u8]) -> ReadEnvelope
+// The tests of L: its limit, and the total.
+fn test_length(set: Numbers, len: usize, total: usize) -> Answer
     requires { ⌜ Good set ⌝ }
-    ensures number { λ r. ⌜ readEnvelopeNumber r ≡ answer (headTests set (now (envelope .entry))) ⌝ }
-    ensures team { λ r. ⌜ readEnvelopeTeam r ≡ teamAnswered (answer (headTests set (now (envelope .entry)))) (now (envelope .entry)) ⌝ }
-    ensures len { λ r. ⌜ readEnvelopeLength r ≡ after (answer (headTests set (now (envelope .entry)))) (lengthOf (now (envelope .entry))) 0 ⌝ }
+    ensures { λ r. ⌜ Answered ((leb len messageLimit orElse 3) ∷ (eqb total (envelopeBytes set len) orElse 1) ∷ []) (numberOf r) ⌝ }
+{
+    if sets::MESSAGE_LIMIT < len {
+        return Answer::Message;
+    }
+    if !is_total(set, len, total) {
+        return Answer::Length;
+    }
+    Answer::Done
+}
+
+// Opening's first four tests, in its own order: fewer than 6 bytes (1), the mark (2), L (3), the total (1).
+pub(crate) fn test_head(set: Numbers, envelope: &[u8]) -> Answer
+    requires { ⌜ Good set ⌝ }
+    ensures { λ r. ⌜ Answered (headTests set (now (envelope .entry))) (numberOf r) ⌝ }
 {
     if envelope.len() < HEAD_BYTES {
-        return ReadEnvelope::Length;
+        return Answer::Length;
     }
     if !pieces::is_marked(set, 4, envelope) {
-        return ReadEnvelope::Mark;
+        return Answer::Mark;
     }
-    let len = number_at(envelope, 4) as usize;
-    if sets::MESSAGE_LIMIT < len {
-        return ReadEnvelope::Message;
-    }
-    if !is_total(set, len, envelope.len()) {
-        return ReadEnvelope::Length;
-    }
-    let team = number_at(envelope, 2);
-    ReadEnvelope::Parts { team, len }
+    test_length(set, length_of(envelope), envelope.len())
 }

@@ -8,7 +8,7 @@ ghost use Rattle.records.specs.Layout.{stretch, signatureBytes};
 ghost use Rattle.envelope.specs.Envelope.{headBytes};
 
 // The size bytes from start on, as many of them as there are.
-pub fn stretch_of(bytes: &[u8], start: usize, size: usize) -> &[u8]
+pub(crate) fn stretch_of(bytes: &[u8], start: usize, size: usize) -> &[u8]
     ensures { λ r. ⌜ now r ≡ stretch start size (now (bytes .entry)) ⌝ }
 {
     let len = bytes.len();
@@ -24,7 +24,7 @@ pub fn stretch_of(bytes: &[u8], start: usize, size: usize) -> &[u8]
 }
 
 // The signature record after a roster of len bytes. What follows the head is taken first, so that no sum with len is made.
-pub fn signature_in(set: Numbers, envelope: &[u8], len: usize) -> &[u8]
+pub(crate) fn signature_in(set: Numbers, envelope: &[u8], len: usize) -> &[u8]
     requires { ⌜ Good set ⌝ }
     ensures { λ r. ⌜ now r ≡ stretch (headBytes + len) (signatureBytes set) (now (envelope .entry)) ⌝ }
 {
