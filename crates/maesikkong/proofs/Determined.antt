@@ -21,6 +21,12 @@ use Rattle.maesikkong.proofs.signature_records.maesikkong_write_signatu
 use Rattle.maesikkong.proofs.signature_records.maesikkong_write_signature.Reads as write-signature
 use Rattle.maesikkong.proofs.signature_records.maesikkong_read_signature.Kinds as read-signature-kinds
 use Rattle.maesikkong.proofs.signature_records.maesikkong_read_signature.Reads as read-signature
+use Rattle.maesikkong.proofs.envelopes.maesikkong_write_envelope.Kinds as write-envelope-kinds
+use Rattle.maesikkong.proofs.envelopes.maesikkong_write_envelope.Reads as write-envelope
+use Rattle.maesikkong.proofs.envelopes.maesikkong_read_envelope.Kinds as read-envelope-kinds
+use Rattle.maesikkong.proofs.envelopes.maesikkong_read_envelope.Reads as read-envelope
+use Rattle.maesikkong.proofs.envelopes.maesikkong_open_envelope.Kinds as open-envelope-kinds
+use Rattle.maesikkong.proofs.envelopes.maesikkong_open_envelope.Reads as open-envelope
 use Rattle.maesikkong.proofs.streams.maesikkong_take_a.Kinds as take-a-kinds
 use Rattle.maesikkong.proofs.streams.maesikkong_take_a.Reads as take-a
 use Rattle.maesikkong.proofs.streams.maesikkong_take_y.Kinds as take-y-kinds
@@ -104,6 +110,36 @@ read-signature-z κs a x y e f p q = same-output (p .z) (q .z)
 
 pub read-signature-c : Output 3 read-signature-kinds.ps read-signature-kinds.r read-signature.Learnt (λ κs e. now (e .1 .1 .0))
 read-signature-c κs a x y e f p q = same-output (p .c) (q .c)
+
+pub write-envelope-number : Result 3 write-envelope-kinds.ps write-envelope-kinds.r write-envelope.Learnt
+write-envelope-number κs a x y e f p q = same-number (p .answered) (q .answered)
+
+pub write-envelope-envelope : Output 3 write-envelope-kinds.ps write-envelope-kinds.r write-envelope.Learnt (λ κs e. now (e .1 .1 .1 .0))
+write-envelope-envelope κs a x y e f p q = same-output (p .envelope) (q .envelope)
+
+pub read-envelope-number : Result 4 read-envelope-kinds.ps read-envelope-kinds.r read-envelope.Learnt
+read-envelope-number κs a x y e f p q = same-number (p .opens .answered) (q .opens .answered)
+
+pub read-envelope-team : Output 4 read-envelope-kinds.ps read-envelope-kinds.r read-envelope.Learnt (λ κs e. now (e .1 .0))
+read-envelope-team κs a x y e f p q = same-output (p .opens .team-is) (q .opens .team-is)
+
+pub read-envelope-start : Output 4 read-envelope-kinds.ps read-envelope-kinds.r read-envelope.Learnt (λ κs e. now (e .1 .1 .0))
+read-envelope-start κs a x y e f p q = same-output (p .start-is) (q .start-is)
+
+pub read-envelope-len : Output 4 read-envelope-kinds.ps read-envelope-kinds.r read-envelope.Learnt (λ κs e. now (e .1 .1 .1 .0))
+read-envelope-len κs a x y e f p q = same-output (p .opens .len-is) (q .opens .len-is)
+
+pub open-envelope-number : Result 5 open-envelope-kinds.ps open-envelope-kinds.r open-envelope.Learnt
+open-envelope-number κs a x y e f p q = same-number (p .opens .answered) (q .opens .answered)
+
+pub open-envelope-team : Output 5 open-envelope-kinds.ps open-envelope-kinds.r open-envelope.Learnt (λ κs e. now (e .1 .1 .0))
+open-envelope-team κs a x y e f p q = same-output (p .opens .team-is) (q .opens .team-is)
+
+pub open-envelope-start : Output 5 open-envelope-kinds.ps open-envelope-kinds.r open-envelope.Learnt (λ κs e. now (e .1 .1 .1 .0))
+open-envelope-start κs a x y e f p q = same-output (p .start-is) (q .start-is)
+
+pub open-envelope-len : Output 5 open-envelope-kinds.ps open-envelope-kinds.r open-envelope.Learnt (λ κs e. now (e .1 .1 .1 .1 .0))
+open-envelope-len κs a x y e f p q = same-output (p .opens .len-is) (q .opens .len-is)
 
 pub take-a-number : Result 2 take-a-kinds.ps take-a-kinds.r take-a.Learnt
 take-a-number κs a x y e f p q = same-number (p .answered) (q .answered)
