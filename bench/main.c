@@ -7,13 +7,12 @@
 #include "maesikkong.h"
 #include "plain.h"
 
-// The proved ones: a slice is a pointer and a length.
-void speed_permute(uint64_t *lanes, size_t count);
-void speed_shake(const uint8_t *message, size_t message_len, uint8_t *out, size_t out_len);
-void speed_expand(const uint8_t *seed, size_t seed_len, uint32_t *a, size_t count);
-void speed_pack(const uint32_t *values, size_t count, uint8_t *out, size_t out_len);
-void speed_unpack(const uint8_t *bytes, size_t len, uint32_t *out, size_t count);
-void speed_multiply(const uint32_t *a, size_t a_count, const uint32_t *b, size_t b_count, uint32_t *out, size_t count);
+// The proved ones that the face has not.
+void speed_permute(uint64_t lanes[25]);
+void speed_expand(const uint8_t secret_record[SECRET], uint32_t a[A_VALUES]);
+void speed_pack(const uint32_t t[N], uint8_t out[T_BYTES]);
+void speed_unpack(const uint8_t bytes[T_BYTES], uint32_t t[N]);
+void speed_multiply(const uint32_t a[N], const uint32_t b[N], uint32_t out[N]);
 
 #define MUCH 65536
 #define PERMUTATIONS 1000
@@ -46,7 +45,7 @@ static Bench ours, theirs;
 
 static void ours_permute(int i) {
     for (int j = 0; j < PERMUTATIONS; j++)
-        speed_permute(ours.lanes, 25);
+        speed_permute(ours.lanes);
     (void)i;
 }
 
@@ -57,7 +56,7 @@ static void c_permute(int i) {
 }
 
 static void ours_absorb(int i) {
-    speed_shake(ours.bytes, MUCH, ours.out + SEED * i, SEED);
+    maesikkong_shake256(ours.bytes, MUCH, ours.out + SEED * i, SEED);
 }
 
 static void c_absorb(int i) {
@@ -65,24 +64,25 @@ static void c_absorb(int i) {
 }
 
 static void ours_squeeze(int i) {
-    speed_shake(ours.bytes, i, ours.out, MUCH);
+    maesikkong_shake256(ours.bytes, i, ours.out, MUCH);
 }
 
 static void c_squeeze(int i) {
     plain_shake(theirs.bytes, i, theirs.out, MUCH);
 }
 
+// The seed is the one in the record.
 static void ours_expand(int i) {
-    speed_expand(ours.bytes + SEED * i, SEED, ours.a, A_VALUES);
+    speed_expand(ours.bytes + SEED * i, ours.a);
 }
 
 static void c_expand(int i) {
-    plain_expand(theirs.bytes + SEED * i, SEED, theirs.a);
+    plain_expand(theirs.bytes + SEED * i + AT_SEED_A, SEED, theirs.a);
 }
 
 static void ours_pack(int i) {
     for (int j = 0; j < POLYNOMIALS; j++)
-        speed_pack(ours.a + N * i, N, ours.packed, T_BYTES);
+        speed_pack(ours.a + N * i, ours.packed);
 }
 
 static void c_pack(int i) {
@@ -92,7 +92,7 @@ static void c_pack(int i) {
 
 static void ours_unpack(int i) {
     for (int j = 0; j < POLYNOMIALS; j++)
-        speed_unpack(ours.bytes + T_BYTES * i, T_BYTES, ours.unpacked, N);
+        speed_unpack(ours.bytes + T_BYTES * i, ours.unpacked);
 }
 
 static void c_unpack(int i) {
@@ -101,7 +101,7 @@ static void c_unpack(int i) {
 }
 
 static void ours_multiply(int i) {
-    speed_multiply(ours.a + N * i, N, ours.a, N, ours.product, N);
+    speed_multiply(ours.a + N * i, ours.a, ours.product);
 }
 
 static void c_multiply(int i) {
@@ -183,24 +183,21 @@ static int same(void) {
     return memcmp(&ours, &theirs, sizeof ours) == 0;
 }
 
-// Messages and outputs about a block's length, and lengths and values that do not fit.
+// Messages and outputs about a block's length, and values that do not fit.
 static int same_at_edges(void) {
     static const size_t EDGES[] = {0, 1, 7, 8, 135, 136, 137, 271, 272, 273, 4096};
     const int count = sizeof EDGES / sizeof EDGES[0];
     for (int i = 0; i < count; i++)
         for (int j = 0; j < count; j++) {
-            speed_shake(ours.bytes, EDGES[i], ours.out, EDGES[j]);
+            maesikkong_shake256(ours.bytes, EDGES[i], ours.out, EDGES[j]);
             plain_shake(theirs.bytes, EDGES[i], theirs.out, EDGES[j]);
             if (!same())
                 return 0;
         }
     uint32_t large[N] = {Q};
-    speed_permute(ours.lanes, 24);
-    speed_expand(ours.bytes, SEED, ours.a, A_VALUES - 1);
-    speed_pack(large, N, ours.packed, T_BYTES);
+    speed_pack(large, ours.packed);
     plain_pack_t(large, theirs.packed);
-    speed_unpack(ours.bytes, T_BYTES - 1, ours.unpacked, N);
-    speed_multiply(large, N, ours.a, N, ours.product, N);
+    speed_multiply(large, ours.a, ours.product);
     plain_multiply(large, theirs.a, theirs.product);
     return same();
 }

@@ -28,6 +28,13 @@
 #define SECRET (2 + N + K * N + 2 * SEED + DIGEST)
 #define SIGNATURE (2 + Z_BYTES + SEED)
 
+// Where the parts of the secret record start.
+#define AT_S 2
+#define AT_E (AT_S + N)
+#define AT_SEED_A (AT_E + K * N)
+#define AT_SEED_Y (AT_SEED_A + SEED)
+#define AT_G (AT_SEED_Y + SEED)
+
 #define A_VALUES (K * N)
 #define MESSAGE_LIMIT 32768
 #define BUDGET_LIMIT 1024

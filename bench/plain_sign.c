@@ -4,13 +4,6 @@
 
 #include "plain.h"
 
-// Where the parts of the secret record start.
-#define AT_S 2
-#define AT_E (AT_S + N)
-#define AT_SEED_A (AT_E + K * N)
-#define AT_SEED_Y (AT_SEED_A + SEED)
-#define AT_G (AT_SEED_Y + SEED)
-
 static void write_mark(uint8_t *out, int j) {
     out[0] = 0x51;
     out[1] = 0x10 + j;

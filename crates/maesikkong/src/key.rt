@@ -1,9 +1,6 @@
 // Key making.
-ghost use mathlib.Core.Path.{_≡_};
-ghost use lib.ListN.{length};
-ghost use Rattle.answers.specs.Tests.{answer, after};
 ghost use Rattle.sets.specs.SetI.{setI};
-ghost use Rattle.keys.specs.Key.{publicOf, secretOf, makeKeyTests};
+ghost use Rattle.keys.specs.Promises.{MakesKey};
 
 // Makes the public and the secret record of s, e_1..e_k in a row, seed_a and seed_y. 0, 1, 5, 6, 7.
 #[no_mangle]
@@ -15,9 +12,7 @@ pub extern "C" fn maesikkong_make_key(
     public: &mut [u8],
     secret: &mut [u8],
 ) -> u8
-    ensures number { λ r. ⌜ r ≡ answer (makeKeyTests setI (now (s .entry)) (now (e .entry)) (now («seed_a» .entry)) (now («seed_y» .entry)) (length (now (public .entry))) (length (now (secret .entry)))) ⌝ }
-    ensures public { λ _. ⌜ now (public .exit) ≡ after (answer (makeKeyTests setI (now (s .entry)) (now (e .entry)) (now («seed_a» .entry)) (now («seed_y» .entry)) (length (now (public .entry))) (length (now (secret .entry))))) (publicOf setI (now (s .entry)) (now (e .entry)) (now («seed_a» .entry))) (now (public .entry)) ⌝ }
-    ensures secret { λ _. ⌜ now (secret .exit) ≡ after (answer (makeKeyTests setI (now (s .entry)) (now (e .entry)) (now («seed_a» .entry)) (now («seed_y» .entry)) (length (now (public .entry))) (length (now (secret .entry))))) (secretOf setI (now (s .entry)) (now (e .entry)) (now («seed_a» .entry)) (now («seed_y» .entry))) (now (secret .entry)) ⌝ }
+    ensures { λ r. ⌜ MakesKey setI (now (s .entry)) (now (e .entry)) (now («seed_a» .entry)) (now («seed_y» .entry)) (now (public .entry)) (now (public .exit)) (now (secret .entry)) (now (secret .exit)) r ⌝ }
 {
     keys::make_key(s, e, seed_a, seed_y, public, secret).number()
 }

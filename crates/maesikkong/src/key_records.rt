@@ -1,16 +1,11 @@
 // The public and the secret record: written from their values and read into them.
-ghost use mathlib.Core.Path.{_≡_};
-ghost use lib.ListN.{length};
-ghost use Rattle.answers.specs.Tests.{answer, after};
 ghost use Rattle.sets.specs.SetI.{setI};
-ghost use Rattle.records.specs.Public.{publicRecord, allT, seedAOf, readPublicTests, writePublicTests};
-ghost use Rattle.records.specs.Secret.{secretRecord, sOf, allE, secretSeedA, secretSeedY, secretG, readSecretTests, writeSecretTests};
+ghost use Rattle.records.specs.Promises.{WritesPublic, ReadsPublic, WritesSecret, ReadsSecret};
 
 // The public record of t, t_1..t_k in a row, and seed_a. 0, 1, 5.
 #[no_mangle]
 pub extern "C" fn maesikkong_write_public(t: &[u32], seed_a: &[u8], public: &mut [u8]) -> u8
-    ensures number { λ r. ⌜ r ≡ answer (writePublicTests setI (now (t .entry)) (now («seed_a» .entry)) (length (now (public .entry)))) ⌝ }
-    ensures written { λ _. ⌜ now (public .exit) ≡ after (answer (writePublicTests setI (now (t .entry)) (now («seed_a» .entry)) (length (now (public .entry))))) (publicRecord setI (now (t .entry)) (now («seed_a» .entry))) (now (public .entry)) ⌝ }
+    ensures { λ r. ⌜ WritesPublic setI (now (t .entry)) (now («seed_a» .entry)) (now (public .entry)) (now (public .exit)) r ⌝ }
 {
     records::write_public(t, seed_a, public).number()
 }
@@ -18,9 +13,7 @@ pub extern "C" fn maesikkong_write_public(t: &[u32], seed_a: &[u8], public: &mut
 // t, t_1..t_k in a row, and seed_a of a public record. 0, 1, 2, 5.
 #[no_mangle]
 pub extern "C" fn maesikkong_read_public(public: &[u8], t: &mut [u32], seed_a: &mut [u8]) -> u8
-    ensures number { λ r. ⌜ r ≡ answer (readPublicTests setI (now (public .entry)) (length (now (t .entry))) (length (now («seed_a» .entry)))) ⌝ }
-    ensures values { λ _. ⌜ now (t .exit) ≡ after (answer (readPublicTests setI (now (public .entry)) (length (now (t .entry))) (length (now («seed_a» .entry))))) (allT setI (now (public .entry))) (now (t .entry)) ⌝ }
-    ensures seed { λ _. ⌜ now («seed_a» .exit) ≡ after (answer (readPublicTests setI (now (public .entry)) (length (now (t .entry))) (length (now («seed_a» .entry))))) (seedAOf setI (now (public .entry))) (now («seed_a» .entry)) ⌝ }
+    ensures { λ r. ⌜ ReadsPublic setI (now (public .entry)) (now (t .entry)) (now (t .exit)) (now («seed_a» .entry)) (now («seed_a» .exit)) r ⌝ }
 {
     records::read_public(public, t, seed_a).number()
 }
@@ -35,8 +28,7 @@ pub extern "C" fn maesikkong_write_secret(
     g: &[u8],
     secret: &mut [u8],
 ) -> u8
-    ensures number { λ r. ⌜ r ≡ answer (writeSecretTests setI (now (s .entry)) (now (e .entry)) (now («seed_a» .entry)) (now («seed_y» .entry)) (now (g .entry)) (length (now (secret .entry)))) ⌝ }
-    ensures written { λ _. ⌜ now (secret .exit) ≡ after (answer (writeSecretTests setI (now (s .entry)) (now (e .entry)) (now («seed_a» .entry)) (now («seed_y» .entry)) (now (g .entry)) (length (now (secret .entry))))) (secretRecord setI (now (s .entry)) (now (e .entry)) (now («seed_a» .entry)) (now («seed_y» .entry)) (now (g .entry))) (now (secret .entry)) ⌝ }
+    ensures { λ r. ⌜ WritesSecret setI (now (s .entry)) (now (e .entry)) (now («seed_a» .entry)) (now («seed_y» .entry)) (now (g .entry)) (now (secret .entry)) (now (secret .exit)) r ⌝ }
 {
     records::write_secret(s, e, seed_a, seed_y, g, secret).number()
 }
@@ -51,12 +43,7 @@ pub extern "C" fn maesikkong_read_secret(
     seed_y: &mut [u8],
     g: &mut [u8],
 ) -> u8
-    ensures number { λ r. ⌜ r ≡ answer (readSecretTests setI (now (secret .entry)) (length (now (s .entry))) (length (now (e .entry))) (length (now («seed_a» .entry))) (length (now («seed_y» .entry))) (length (now (g .entry)))) ⌝ }
-    ensures s { λ _. ⌜ now (s .exit) ≡ after (answer (readSecretTests setI (now (secret .entry)) (length (now (s .entry))) (length (now (e .entry))) (length (now («seed_a» .entry))) (length (now («seed_y» .entry))) (length (now (g .entry))))) (sOf setI (now (secret .entry))) (now (s .entry)) ⌝ }
-    ensures e { λ _. ⌜ now (e .exit) ≡ after (answer (readSecretTests setI (now (secret .entry)) (length (now (s .entry))) (length (now (e .entry))) (length (now («seed_a» .entry))) (length (now («seed_y» .entry))) (length (now (g .entry))))) (allE setI (now (secret .entry))) (now (e .entry)) ⌝ }
-    ensures seed_a { λ _. ⌜ now («seed_a» .exit) ≡ after (answer (readSecretTests setI (now (secret .entry)) (length (now (s .entry))) (length (now (e .entry))) (length (now («seed_a» .entry))) (length (now («seed_y» .entry))) (length (now (g .entry))))) (secretSeedA setI (now (secret .entry))) (now («seed_a» .entry)) ⌝ }
-    ensures seed_y { λ _. ⌜ now («seed_y» .exit) ≡ after (answer (readSecretTests setI (now (secret .entry)) (length (now (s .entry))) (length (now (e .entry))) (length (now («seed_a» .entry))) (length (now («seed_y» .entry))) (length (now (g .entry))))) (secretSeedY setI (now (secret .entry))) (now («seed_y» .entry)) ⌝ }
-    ensures g { λ _. ⌜ now (g .exit) ≡ after (answer (readSecretTests setI (now (secret .entry)) (length (now (s .entry))) (length (now (e .entry))) (length (now («seed_a» .entry))) (length (now («seed_y» .entry))) (length (now (g .entry))))) (secretG setI (now (secret .entry))) (now (g .entry)) ⌝ }
+    ensures { λ r. ⌜ ReadsSecret setI (now (secret .entry)) (now (s .entry)) (now (s .exit)) (now (e .entry)) (now (e .exit)) (now («seed_a» .entry)) (now («seed_a» .exit)) (now («seed_y» .entry)) (now («seed_y» .exit)) (now (g .entry)) (now (g .exit)) r ⌝ }
 {
     records::read_secret(secret, s, e, seed_a, seed_y, g).number()
 }

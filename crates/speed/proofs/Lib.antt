@@ -1,3 +1,2 @@
-pub mod Expanding
-pub mod Polynomials
 pub mod Determined
+pub mod Steps

@@ -1,3 +1,1 @@
-pub mod Lanes
-pub mod Row
-pub mod Polynomial
+pub mod Promises

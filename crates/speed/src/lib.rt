@@ -1,72 +1,76 @@
-// What the bench calls from C: the permutation, SHAKE256, a_1..a_k of a seed, and one polynomial packed, unpacked and multiplied.
-pub mod polynomial;
-
-use sets::Numbers;
+// What the bench calls from C beside the face, in set I: the permutation, a_1..a_k of a seed, and one polynomial packed, unpacked and
+// multiplied. An array crosses as a pointer to its first element.
 use sets::SetI;
 ghost use mathlib.Core.Path.{_≡_};
-ghost use lib.ListN.{length};
-ghost use Rattle.shake.specs.Shake256.{shake256};
+ghost use mathlib.Core.Bool.{_&&_};
+ghost use Rattle.keccak.specs.Steps.{keccakF};
+ghost use Rattle.packing.specs.Digits.{unpacked};
+ghost use Rattle.sets.specs.SetI.{setI};
 ghost use Rattle.sampling.specs.Streams.{allA};
-ghost use Rattle.speed.specs.Lanes.{permutedLanes};
-ghost use Rattle.speed.specs.Row.{Row, expanded};
+ghost use Rattle.records.specs.Public.{tInRange};
+ghost use Rattle.records.specs.Secret.{secretSeedA};
+ghost use Rattle.speed.specs.Promises.{PacksOne, Multiplies};
 
-// Copies from into to.
-fn copy(from: &[u64], to: &mut [u64])
-    requires { ⌜ length (now from) ≡ length (now to) ⌝ }
-    ensures { λ _. ⌜ now (to .exit) ≡ now (from .entry) ⌝ }
+// bytes of a secret record, and of a packed polynomial
+const SECRET_BYTES: usize = 5226;
+
+const T_BYTES: usize = 3712;
+
+// Keccak-f[1600] of 25 lanes, in their place.
+#[no_mangle]
+pub extern "C" fn speed_permute(lanes: &mut [u64; 25])
+    ensures { λ _. ⌜ now (lanes .exit) ≡ keccakF (now (lanes .entry)) ⌝ }
 {
-    let mut i = 0;
-    while i < to.len() {
-        to[i] = from[i];
-        i += 1;
+    let next = keccak::permute(*lanes);
+    *lanes = next;
+}
+
+// a_1..a_k of the record's seed_a, in a row.
+#[no_mangle]
+pub extern "C" fn speed_expand(secret: &[u8; SECRET_BYTES], a: &mut [u32; SetI::K * SetI::N])
+    ensures { λ _. ⌜ now (a .exit) ≡ allA setI (secretSeedA setI (now (secret .entry))) ⌝ }
+{
+    attempts::row::draw_key(SetI::numbers(), secret, a);
+}
+
+// Whether every value is below q.
+fn below_q(t: &[u32]) -> bool
+    ensures { λ r. ⌜ r ≡ tInRange setI (now (t .entry)) ⌝ }
+{
+    records::public::t_in_range(SetI::numbers(), t)
+}
+
+// t packed. Nothing is done where a value is not below q.
+#[no_mangle]
+pub extern "C" fn speed_pack(t: &[u32; SetI::N], out: &mut [u8; T_BYTES])
+    ensures { λ _. ⌜ PacksOne (now (t .entry)) (now (out .entry)) (now (out .exit)) ⌝ }
+{
+    if below_q(t) {
+        packing::pack(t, SetI::T_BITS, out);
     }
 }
 
-// Keccak-f[1600] of 25 lanes, in their place. Nothing is done where there are not 25.
+// The t that the bytes hold.
 #[no_mangle]
-pub extern "C" fn speed_permute(lanes: &mut [u64])
-    ensures { λ _. ⌜ now (lanes .exit) ≡ permutedLanes (now (lanes .entry)) ⌝ }
+pub extern "C" fn speed_unpack(bytes: &[u8; T_BYTES], t: &mut [u32; SetI::N])
+    ensures { λ _. ⌜ now (t .exit) ≡ unpacked (setI .«t_bits») (setI .n) (now (bytes .entry)) ⌝ }
 {
-    if lanes.len() == 25 {
-        let mut a = [0u64; 25];
-        copy(lanes, &mut a);
-        let b = keccak::permute(a);
-        copy(&b, lanes);
-    }
+    packing::unpack(bytes, SetI::T_BITS, t);
 }
 
-// The first out.len() bytes of SHAKE256 of the message, into out.
-#[no_mangle]
-pub extern "C" fn speed_shake(message: &[u8], out: &mut [u8])
-    ensures { λ _. ⌜ now (out .exit) ≡ shake256 (now (message .entry)) (length (now (out .entry))) ⌝ }
+// The same of two polynomials.
+fn both_below_q(a: &[u32], b: &[u32]) -> bool
+    ensures { λ r. ⌜ r ≡ (tInRange setI (now (a .entry)) && tInRange setI (now (b .entry))) ⌝ }
 {
-    shake::Sponge::blank().absorb(message).squeeze(out);
+    if below_q(a) { below_q(b) } else { false }
 }
 
-// a_1..a_k of the seed in a row, into out.
-fn expand(set: Numbers, seed: &[u8], out: &mut [u32])
-    requires { ⌜ Row set (length (now out)) ⌝ }
-    ensures { λ _. ⌜ now (out .exit) ≡ allA set (now (seed .entry)) ⌝ }
-{
-    let n = set.n;
-    let k = set.k;
-    let mut stream = sampling::drawn::start_a(set, seed);
-    let mut i = 0;
-    while i < k {
-        let start = n * i;
-        let end = start + n;
-        let after = sampling::drawn::next_a(set, stream, &mut out[start..end]);
-        stream = after;
-        i += 1;
-    }
-}
-
-// a_1..a_k of the seed for set I in a row, into out. Nothing is done where out has not a place for each value.
+// a b modulo q. Nothing is done where a value is not below q.
 #[no_mangle]
-pub extern "C" fn speed_expand(seed: &[u8], out: &mut [u32])
-    ensures { λ _. ⌜ now (out .exit) ≡ expanded (now (seed .entry)) (now (out .entry)) ⌝ }
+pub extern "C" fn speed_multiply(a: &[u32; SetI::N], b: &[u32; SetI::N], out: &mut [u32; SetI::N])
+    ensures { λ _. ⌜ Multiplies (now (a .entry)) (now (b .entry)) (now (out .entry)) (now (out .exit)) ⌝ }
 {
-    if out.len() == SetI::K * SetI::N {
-        expand(SetI::numbers(), seed, out);
+    if both_below_q(a, b) {
+        ring::product::multiply(a, b, SetI::Q, out);
     }
 }
