@@ -1,6 +1,6 @@
 -- `speed::speed_multiply` meets its contract. Assumes nothing.
 use borrow.Author.Needs.{needs}
-use Rattle.speed.proofs.Steps.{multiply-asks, multiplies, multiplies-not}
+use Rattle.speed.proofs.Steps.{multiply-asks, multiply-done, multiply-not}
 use Rattle.speed.proofs.speed_multiply.Statement.{statement}
 use Rattle.speed.proofs.speed_multiply.Tie as tie
 
@@ -10,5 +10,6 @@ speed-multiply-spec =
     (tie.spec
     (λ c κs. search needs)
     (λ c κs. search (multiply-asks, needs))
-    (λ c. search (multiplies, needs))
-    (λ c. search (multiplies-not, needs)))
+    (λ c. search needs)
+    (λ c. search (multiply-done, needs))
+    (λ c. search (multiply-not, needs)))
