@@ -85,20 +85,22 @@ module _ (a b out : List ℕ) {r : Bool} (e : r ≡ multiplies a b (length out))
     ranges : (tInRange setI a && tInRange setI b) ≡ true
     ranges = same-rest (length b) (length out) (tInRange setI a && tInRange setI b) after-a
 
-    pub multiply-asks : Factors 343576577 a b out
-    multiply-asks =
-        record {
+    pub multiply-asks : {set : Numbers} → set ≡ setI → Factors (set .q) a b out
+    multiply-asks i =
+        rw i
+        (record {
           small = lit≤ tt;
           some = lit< tt;
           a-long = same-first (length a) (length out) (eqb (length b) (length out) && (tInRange setI a && tInRange setI b)) (sym e ∙ h);
           b-long = same-first (length b) (length out) (tInRange setI a && tInRange setI b) after-a;
           a-below = tInRange-below setI a (both-first (tInRange setI a) (tInRange setI b) ranges);
           b-below = tInRange-below setI b (both-second (tInRange setI a) (tInRange setI b) ranges);
-        }
+        })
 
-    pub multiply-done : {new : List ℕ} → new ≡ residues 343576577 (length out) (mul (length out) (naturals a) (naturals b)) → Multiplies a b out new
-    multiply-done {new} f =
-        record { is = f ∙ sym (ap (λ x. cond x (residues 343576577 (length out) (mul (length out) (naturals a) (naturals b))) out) (sym e ∙ h)) }
+    pub multiply-done : (set : Numbers) {new : List ℕ} → set ≡ setI → new ≡ residues (set .q) (length out) (mul (length out) (naturals a) (naturals b))
+        → Multiplies a b out new
+    multiply-done set i f =
+        record { is = rw i at f ∙ sym (ap (λ x. cond x (residues 343576577 (length out) (mul (length out) (naturals a) (naturals b))) out) (sym e ∙ h)) }
 
   pub multiply-not : r ≡ false → Multiplies a b out out
   multiply-not h =

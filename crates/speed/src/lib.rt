@@ -1,5 +1,6 @@
 // What the bench calls from C beside the face, in set I: the permutation, a_1..a_k of a seed, and one polynomial packed, unpacked and
 // multiplied. An array crosses as a pointer to its first element, a slice as that and its length.
+use sets::Numbers;
 use sets::SetI;
 ghost use mathlib.Core.Path.{_≡_};
 ghost use Rattle.keccak.specs.Steps.{keccakF};
@@ -70,13 +71,20 @@ fn multiplies(a: &[u32], b: &[u32], places: usize) -> bool
     if below_q(a) { below_q(b) } else { false }
 }
 
-// a b modulo q. Nothing is done where a length or a value does not fit. The entries know no length of a product before they run, and neither
-// does this.
+// a b modulo q where the lengths and the values fit. The numbers come from the set, as the entries hand them on.
+fn product(set: Numbers, a: &[u32], b: &[u32], out: &mut [u32])
+    requires { ⌜ set ≡ setI ⌝ }
+    ensures { λ _. ⌜ Multiplies (now (a .entry)) (now (b .entry)) (now (out .entry)) (now (out .exit)) ⌝ }
+{
+    if multiplies(a, b, out.len()) {
+        ring::product::multiply(a, b, set.q, out);
+    }
+}
+
+// a b modulo q. Nothing is done where a length or a value does not fit.
 #[no_mangle]
 pub extern "C" fn speed_multiply(a: &[u32], b: &[u32], out: &mut [u32])
     ensures { λ _. ⌜ Multiplies (now (a .entry)) (now (b .entry)) (now (out .entry)) (now (out .exit)) ⌝ }
 {
-    if multiplies(a, b, out.len()) {
-        ring::product::multiply(a, b, SetI::Q, out);
-    }
+    product(SetI::numbers(), a, b, out);
 }

@@ -1,11 +1,11 @@
--- `speed::speed_multiply` meets its contract. Assumes nothing.
+-- `speed::product` meets its contract. Assumes nothing.
 use borrow.Author.Needs.{needs}
 use Rattle.speed.proofs.Steps.{multiply-asks, multiply-done, multiply-not}
-use Rattle.speed.proofs.speed_multiply.Statement.{statement}
-use Rattle.speed.proofs.speed_multiply.Tie as tie
+use Rattle.speed.proofs.product.Statement.{statement}
+use Rattle.speed.proofs.product.Tie as tie
 
-pub speed-multiply-spec : {M : Type 1} → statement M
-speed-multiply-spec =
+pub product-spec : {M : Type 1} → statement M
+product-spec =
     tie.close
     (tie.spec
     (λ c κs. search needs)
