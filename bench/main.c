@@ -7,12 +7,12 @@
 #include "maesikkong.h"
 #include "plain.h"
 
-// The proved ones that the face has not.
+// The proved ones that the face has not. A slice is a pointer and a length.
 void speed_permute(uint64_t lanes[25]);
 void speed_expand(const uint8_t secret_record[SECRET], uint32_t a[A_VALUES]);
 void speed_pack(const uint32_t t[N], uint8_t out[T_BYTES]);
 void speed_unpack(const uint8_t bytes[T_BYTES], uint32_t t[N]);
-void speed_multiply(const uint32_t a[N], const uint32_t b[N], uint32_t out[N]);
+void speed_multiply(const uint32_t *a, size_t a_count, const uint32_t *b, size_t b_count, uint32_t *out, size_t count);
 
 #define MUCH 65536
 #define PERMUTATIONS 1000
@@ -101,7 +101,7 @@ static void c_unpack(int i) {
 }
 
 static void ours_multiply(int i) {
-    speed_multiply(ours.a + N * i, ours.a, ours.product);
+    speed_multiply(ours.a + N * i, N, ours.a, N, ours.product, N);
 }
 
 static void c_multiply(int i) {
@@ -197,7 +197,7 @@ static int same_at_edges(void) {
     uint32_t large[N] = {Q};
     speed_pack(large, ours.packed);
     plain_pack_t(large, theirs.packed);
-    speed_multiply(large, ours.a, ours.product);
+    speed_multiply(large, N, ours.a, N, ours.product, N);
     plain_multiply(large, theirs.a, theirs.product);
     return same();
 }

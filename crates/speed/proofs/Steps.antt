@@ -5,10 +5,15 @@ use mathlib.Core.List.{List, _++_, append-nil}
 use Prim.Native.Nat.{ℕ}
 use native.Mathlib.Nat.{le-of-eq}
 use native.Mathlib.Omega.{arith}
-use lib.Dec.{lit<, lit≤}
+use lib.Dec.{eqb, lit<, lit≤}
 use lib.ListN.{length, drop, drop-of-length-le}
+<<<<<<< HEAD
 use Rattle.whole.specs.BelowLaws.{below-more}
 use Rattle.whole.specs.EveryLaws.{both-first, both-second}
+=======
+use Rattle.whole.specs.BelowLaws.{below-more}
+use Rattle.whole.specs.EveryLaws.{both-first, both-second, same-first, same-rest}
+>>>>>>> ef553a4ecdf20ca0beb44f12b97347bbbd2f8967
 use Rattle.packing.specs.Digits.{Packs, packed, unpacked, bytesFor}
 use Rattle.ring.specs.Asks.{Factors}
 use Rattle.ring.specs.Lists.{naturals, residues}
@@ -20,7 +25,7 @@ use Rattle.records.specs.Public.{tInRange}
 use Rattle.records.specs.PublicLaws.{tInRange-below}
 use Rattle.records.specs.Secret.{secretSeedA}
 use Rattle.attempts.specs.Asks.{DrawsKey}
-use Rattle.speed.specs.Promises.{PacksOne, Multiplies}
+use Rattle.speed.specs.Promises.{PacksOne, multiplies, Multiplies}
 
 -- ---- a_1..a_k
 
@@ -77,27 +82,31 @@ unpacks bytes out l e = e ∙ ap (λ k. unpacked 29 k bytes) l
 
 -- ---- the product
 
-module _ (a b : List ℕ) {out : List ℕ} {r : Bool} (e : r ≡ (tInRange setI a && tInRange setI b)) where
-  module _ (h : r ≡ true) (n : length out ≡ 1024) where
-    pub multiply-asks : length a ≡ 1024 → length b ≡ 1024 → Factors 343576577 a b out
-    multiply-asks l m =
-        record {
+module _ (a b out : List ℕ) {r : Bool} (e : r ≡ multiplies a b (length out)) where
+  module _ (h : r ≡ true) where
+    after-a : (eqb (length b) (length out) && (tInRange setI a && tInRange setI b)) ≡ true
+    after-a = same-rest (length a) (length out) (eqb (length b) (length out) && (tInRange setI a && tInRange setI b)) (sym e ∙ h)
+
+    ranges : (tInRange setI a && tInRange setI b) ≡ true
+    ranges = same-rest (length b) (length out) (tInRange setI a && tInRange setI b) after-a
+
+    pub multiply-asks : {set : Numbers} → set ≡ setI → Factors (set .q) a b out
+    multiply-asks i =
+        rw i
+        (record {
           small = lit≤ tt;
           some = lit< tt;
-          a-long = l ∙ sym n;
-          b-long = m ∙ sym n;
-          a-below = tInRange-below setI a (both-first (tInRange setI a) (tInRange setI b) (sym e ∙ h));
-          b-below = tInRange-below setI b (both-second (tInRange setI a) (tInRange setI b) (sym e ∙ h));
-        }
+          a-long = same-first (length a) (length out) (eqb (length b) (length out) && (tInRange setI a && tInRange setI b)) (sym e ∙ h);
+          b-long = same-first (length b) (length out) (tInRange setI a && tInRange setI b) after-a;
+          a-below = tInRange-below setI a (both-first (tInRange setI a) (tInRange setI b) ranges);
+          b-below = tInRange-below setI b (both-second (tInRange setI a) (tInRange setI b) ranges);
+        })
 
-    pub multiplies : {new : List ℕ} → new ≡ residues 343576577 (length out) (mul (length out) (naturals a) (naturals b)) → Multiplies a b out new
-    multiplies f =
-        record {
-          is =
-              f
-              ∙ ap (λ k. residues 343576577 k (mul k (naturals a) (naturals b))) n
-              ∙ sym (ap (λ x. cond x (residues 343576577 1024 (mul 1024 (naturals a) (naturals b))) out) (sym e ∙ h));
-        }
+    pub multiply-done : (set : Numbers) {new : List ℕ} → set ≡ setI → new ≡ residues (set .q) (length out) (mul (length out) (naturals a) (naturals b))
+        → Multiplies a b out new
+    multiply-done set i f =
+        record { is = rw i at f ∙ sym (ap (λ x. cond x (residues 343576577 (length out) (mul (length out) (naturals a) (naturals b))) out) (sym e ∙ h)) }
 
-  pub multiplies-not : r ≡ false → Multiplies a b out out
-  multiplies-not h = record { is = sym (ap (λ x. cond x (residues 343576577 1024 (mul 1024 (naturals a) (naturals b))) out) (sym e ∙ h)) }
+  pub multiply-not : r ≡ false → Multiplies a b out out
+  multiply-not h =
+      record { is = sym (ap (λ x. cond x (residues 343576577 (length out) (mul (length out) (naturals a) (naturals b))) out) (sym e ∙ h)) }

@@ -1,15 +1,15 @@
 // What the bench calls from C beside the face, in set I: the permutation, a_1..a_k of a seed, and one polynomial packed, unpacked and
-// multiplied. An array crosses as a pointer to its first element.
+// multiplied. An array crosses as a pointer to its first element, a slice as that and its length.
+use sets::Numbers;
 use sets::SetI;
 ghost use mathlib.Core.Path.{_≡_};
-ghost use mathlib.Core.Bool.{_&&_};
 ghost use Rattle.keccak.specs.Steps.{keccakF};
 ghost use Rattle.packing.specs.Digits.{unpacked};
 ghost use Rattle.sets.specs.SetI.{setI};
 ghost use Rattle.sampling.specs.Streams.{allA};
 ghost use Rattle.records.specs.Public.{tInRange};
 ghost use Rattle.records.specs.Secret.{secretSeedA};
-ghost use Rattle.speed.specs.Promises.{PacksOne, Multiplies};
+ghost use Rattle.speed.specs.Promises.{PacksOne, multiplies, Multiplies};
 
 // bytes of a secret record, and of a packed polynomial
 const SECRET_BYTES: usize = 5226;
@@ -58,19 +58,33 @@ pub extern "C" fn speed_unpack(bytes: &[u8; T_BYTES], t: &mut [u32; SetI::N])
     packing::unpack(bytes, SetI::T_BITS, t);
 }
 
-// The same of two polynomials.
-fn both_below_q(a: &[u32], b: &[u32]) -> bool
-    ensures { λ r. ⌜ r ≡ (tInRange setI (now (a .entry)) && tInRange setI (now (b .entry))) ⌝ }
+// Whether both factors have the product's length and values below q.
+fn multiplies(a: &[u32], b: &[u32], places: usize) -> bool
+    ensures { λ r. ⌜ r ≡ multiplies (now (a .entry)) (now (b .entry)) places ⌝ }
 {
+    if a.len() != places {
+        return false;
+    }
+    if b.len() != places {
+        return false;
+    }
     if below_q(a) { below_q(b) } else { false }
 }
 
-// a b modulo q. Nothing is done where a value is not below q.
-#[no_mangle]
-pub extern "C" fn speed_multiply(a: &[u32; SetI::N], b: &[u32; SetI::N], out: &mut [u32; SetI::N])
+// a b modulo q where the lengths and the values fit. The numbers come from the set, as the entries hand them on.
+fn product(set: Numbers, a: &[u32], b: &[u32], out: &mut [u32])
+    requires { ⌜ set ≡ setI ⌝ }
     ensures { λ _. ⌜ Multiplies (now (a .entry)) (now (b .entry)) (now (out .entry)) (now (out .exit)) ⌝ }
 {
-    if both_below_q(a, b) {
-        ring::product::multiply(a, b, SetI::Q, out);
+    if multiplies(a, b, out.len()) {
+        ring::product::multiply(a, b, set.q, out);
     }
+}
+
+// a b modulo q. Nothing is done where a length or a value does not fit.
+#[no_mangle]
+pub extern "C" fn speed_multiply(a: &[u32], b: &[u32], out: &mut [u32])
+    ensures { λ _. ⌜ Multiplies (now (a .entry)) (now (b .entry)) (now (out .entry)) (now (out .exit)) ⌝ }
+{
+    product(SetI::numbers(), a, b, out);
 }
