@@ -7,13 +7,8 @@ use native.Mathlib.Nat.{le-of-eq}
 use native.Mathlib.Omega.{arith}
 use lib.Dec.{eqb, lit<, lit≤}
 use lib.ListN.{length, drop, drop-of-length-le}
-<<<<<<< HEAD
-use Rattle.whole.specs.BelowLaws.{below-more}
-use Rattle.whole.specs.EveryLaws.{both-first, both-second}
-=======
 use Rattle.whole.specs.BelowLaws.{below-more}
 use Rattle.whole.specs.EveryLaws.{both-first, both-second, same-first, same-rest}
->>>>>>> ef553a4ecdf20ca0beb44f12b97347bbbd2f8967
 use Rattle.packing.specs.Digits.{Packs, packed, unpacked, bytesFor}
 use Rattle.ring.specs.Asks.{Factors}
 use Rattle.ring.specs.Lists.{naturals, residues}
