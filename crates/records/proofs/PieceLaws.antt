@@ -1,50 +1,19 @@
--- Laws of the pieces: a loop that copies, and a mark that is written and tested.
+-- Laws of the pieces: a mark that is written and tested, and bytes from the middle of a list.
 -- Assumes nothing.
-use mathlib.Core.Path.{_≡_, sym, _∙_}
+use mathlib.Core.Path.{_≡_, _∙_}
 use mathlib.Core.Bool.{false}
 use mathlib.Core.List.{List, [], _∷_, _++_, append-nil}
-use Prim.Native.Nat.{ℕ, _+_, _*_, _≤_, _<_, zero-le, _-_}
-use native.Mathlib.Nat.{le-antisymm, le-refl, le-trans, add-sub-cancel-left}
+use Prim.Native.Nat.{ℕ, _+_, _*_, _≤_, _-_}
+use native.Mathlib.Nat.{add-sub-cancel-left}
 use native.Mathlib.Omega.{arith}
 use lib.Dec.{eqb}
 use lib.ListN.{length, getD, drop, set, take}
 use borrow.Author.Tests.{eq-eqb, ne-eqb}
-use Rattle.whole.specs.Fill.{filled, filled-none, filled-more, filled-all, length-filled}
 use Rattle.sets.specs.declared.Numbers.{Numbers}
 use Rattle.records.specs.Layout.{marked}
-use Rattle.records.specs.Asks.{Copies, CopiesOut}
+use Rattle.records.specs.Asks.{CopiesOut}
 use lib.Seq.{drop-length}
 use Rattle.whole.specs.Parts.{part-length}
-
--- ---- copying
-
--- the first i bytes stand in `to`
-pub record Copying (from old to : List ℕ) (i : ℕ) : Type 0 where
-  pub near : i ≤ length from
-  pub done : to ≡ filled i from old
-
-pub copying-none : (from old : List ℕ) → Copying from old old 0
-copying-none from old = record { near = zero-le; done = filled-none from old }
-
-module _ {from old to : List ℕ} {i : ℕ} (p : Copies from old) (s : Copying from old to i) where
-  pub copying-more : {v next : ℕ} → i < length from → v ≡ getD from i 0 → next ≡ i + 1 → Copying from old (set to i v) next
-  copying-more {v} l e n =
-      rw n
-      (record {
-        near = omega arith;
-        done = rw (s .done) (filled-more i from old 0 v l (le-trans l (p .room)) (sym e));
-      })
-
-  pub copying-length : length to ≡ length old
-  copying-length = rw (s .done) (length-filled i from old (s .near) (le-trans (s .near) (p .room)))
-
-  pub copying-inside : i < length from → i < length to
-  copying-inside l = omega (arith, copying-length, p .room)
-
-  pub copying-all : length from ≤ i → to ≡ from ++ drop (length from) old
-  copying-all l =
-      let e : i ≡ length from = le-antisymm (s .near) l in
-      s .done ∙ rw e (filled-all (length from) from old (le-refl (length from)))
 
 -- ---- marks
 

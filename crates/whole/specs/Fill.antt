@@ -6,18 +6,17 @@
 --     wrote-ahead    what is still to be written is as it was
 --     wrote-front, wrote-all                after the last turn: the first n places are written, or every place
 --     wrote-list, wrote-whole, wrote-map    the same, where f gives the elements of a list, or g of each
--- `filled` says it of a list in place of f, and `Mapping` of g of every element of a list.
 -- Assumes nothing.
 use mathlib.Core.Path.{_≡_, refl, sym, ap, _∙_}
-use mathlib.Core.List.{List, [], _∷_, _++_, map, append-nil}
-use Prim.Native.Nat.{ℕ, zero, suc, _+_, _≤_, _<_, zero-le}
+use mathlib.Core.List.{List, _∷_, _++_, map, append-nil}
+use Prim.Native.Nat.{ℕ, suc, _+_, _≤_, _<_, zero-le}
 use native.Mathlib.Omega.{arith}
 use Rattle.whole.specs.Table.{row, table}
 use Rattle.whole.specs.TableLaws.{length-table, table-suc, table-getD, map-table}
-use native.Mathlib.Nat.{add-zero, not-suc-le-zero, le-of-suc-le-suc, le-of-eq, le-antisymm}
+use native.Mathlib.Nat.{add-zero}
 use native.Mathlib.Numerals.{add-one}
-use lib.ListN.{length, getD, take, drop, set, length-set, length-map, List·getD-map}
-use lib.Seq.{take-all, drop-length, drop-cons, set-at, append-snoc, getD-append-add, getD-drop}
+use lib.ListN.{length, getD, drop, set, length-set}
+use lib.Seq.{drop-length, drop-cons, set-at, append-snoc, getD-append-add, getD-drop}
 
 -- ---- what a loop has written: f i at place i, one place after another
 
@@ -89,67 +88,3 @@ wrote-map g xs d w e l =
     ∙ ap (λ (n : ℕ). table n (λ k. g (getD xs k d))) e
     ∙ sym (map-table g (length xs) (λ k. getD xs k d))
     ∙ ap (map g) (sym (table-getD xs d))
-
--- ---- the same of a list
-
-module _ {ℓ} {A : Type ℓ} where
-  unfoldable pub filled : ℕ → List A → List A → List A
-  filled k new old = take k new ++ drop k old
-
-  pub filled-none : (new old : List A) → old ≡ filled 0 new old
-  unfolding filled
-  filled-none new old = refl
-
-  store : (k : ℕ) (new old : List A) (d : A) → k < length new → k < length old
-      → set (take k new ++ drop k old) k (getD new k d) ≡ take (suc k) new ++ drop (suc k) old
-  store k [] old d h l = absurd (not-suc-le-zero h)
-  store k (x ∷ new) [] d h l = absurd (not-suc-le-zero l)
-  store zero (x ∷ new) (y ∷ old) d h l = refl
-  store (suc k) (x ∷ new) (y ∷ old) d h l = ap (λ (r : List A). x ∷ r) (store k new old d (le-of-suc-le-suc h) (le-of-suc-le-suc l))
-
-  pub filled-more : (k : ℕ) (new old : List A) (d v : A) → k < length new → k < length old → getD new k d ≡ v
-      → set (filled k new old) k v ≡ filled (k + 1) new old
-  unfolding filled
-  filled-more k new old d v h l e = rw (← e, add-one) (store k new old d h l)
-
-  pub filled-all : (k : ℕ) (new old : List A) → length new ≤ k → filled k new old ≡ new ++ drop k old
-  unfolding filled
-  filled-all k new old h = rw take-all
-
-  pub filled-whole : (new old : List A) → length new ≡ length old → filled (length old) new old ≡ new
-  unfolding filled
-  filled-whole new old e = rw (take-all (length old) new (le-of-eq e), drop-length old) (append-nil new)
-
-  pub length-filled : (k : ℕ) (new old : List A) → k ≤ length new → k ≤ length old → length (filled k new old) ≡ length old
-  unfolding filled
-  length-filled zero new old h l = refl
-  length-filled (suc k) [] old h l = absurd (not-suc-le-zero h)
-  length-filled (suc k) (x ∷ new) [] h l = absurd (not-suc-le-zero l)
-  length-filled (suc k) (x ∷ new) (y ∷ old) h l = ap suc (length-filled k new old (le-of-suc-le-suc h) (le-of-suc-le-suc l))
-
--- ---- a loop that writes f of every element of xs into a slice of the same length
-
--- the first k are written
-pub record Mapping {A B : Type 0} (f : A → B) (xs : List A) (old out : List B) (k : ℕ) : Type 0 where
-  pub near : k ≤ length xs
-  pub done : out ≡ filled k (map f xs) old
-
-module _ {A B : Type 0} where
-  pub mapping-none : (f : A → B) (xs : List A) (old : List B) → Mapping f xs old old 0
-  mapping-none f xs old = record { near = zero-le; done = filled-none (map f xs) old }
-
-  module _ {f : A → B} {xs : List A} {old out : List B} {k : ℕ} (e : length old ≡ length xs) (m : Mapping f xs old out k) where
-    pub mapping-more : {v : B} (d : A) → k < length xs → v ≡ f (getD xs k d) → Mapping f xs old (set out k v) (k + 1)
-    mapping-more {v} d h q =
-        record {
-          near = rw add-one h;
-          done = rw (m .done) (filled-more k (map f xs) old (f d) v (rw (length-map xs f) h) (rw e h) (List·getD-map f xs k d ∙ sym q));
-        }
-
-    pub mapping-length : length out ≡ length old
-    mapping-length = rw (m .done) (length-filled k (map f xs) old (rw (length-map xs f) (m .near)) (rw e (m .near)))
-
-    pub mapping-all : length xs ≤ k → out ≡ map f xs
-    mapping-all h =
-        let n : k ≡ length old = le-antisymm (m .near) h ∙ sym e in
-        m .done ∙ rw n (filled-whole (map f xs) old (length-map xs f ∙ sym e))

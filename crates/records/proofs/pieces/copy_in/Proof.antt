@@ -1,16 +1,24 @@
 -- `records::pieces::copy_in` meets its contract. The loop's invariant: the first i bytes are copied. Assumes nothing.
-use Prim.Native.Nat.{_-_}
+use mathlib.Core.Path.{refl}
+use Prim.Native.Nat.{_-_, _≤_}
 use native.Mathlib.Omega.{arith}
+use lib.ListN.{length, getD}
 use borrow.Author.Needs.{needs}
-use Rattle.records.proofs.PieceLaws.{Copying, copying-none, copying-more, copying-inside, copying-length, copying-all}
+use Rattle.whole.specs.Fill.{Wrote, wrote-none, wrote-more, wrote-list}
 use Rattle.records.proofs.pieces.copy_in.Statement.{statement}
 use Rattle.records.proofs.pieces.copy_in.Tie as tie
 
 abbrev Inv-loop : tie.InvT-loop
-Inv-loop from to₀ len i₀ to i = Copying from to₀ to i
+Inv-loop from to₀ len i₀ to i = (i ≤ length from) × Wrote (λ k. getD from k 0) to₀ i to
 
 abbrev μ-loop : tie.MeasureT-loop
 μ-loop from to₀ len i₀ to i = len - i
+
+loop-again : tie.Need-loop-again Inv-loop μ-loop
+loop-again c = (omega arith, wrote-more (c .before .before .loop .inv .1) (omega arith) refl)
+
+returns : tie.Need-returns Inv-loop μ-loop
+returns c = wrote-list (c .before .before .args .from .now) 0 (c .before .loop .inv .1) (omega arith)
 
 pub copy-in-spec : {M : Type 1} → statement M
 copy-in-spec =
@@ -18,11 +26,11 @@ copy-in-spec =
     (tie.spec
     Inv-loop
     μ-loop
-    (λ c. copying-none _ _)
-    (λ c. omega arith)
-    (λ c. search (copying-inside, needs))
+    (λ c. (omega arith, wrote-none))
     (λ c. omega arith)
     (λ c. omega arith)
-    (λ c. search (copying-more, copying-inside, needs))
-    (λ c. search (copying-length, needs))
-    (λ c. search (copying-all, needs)))
+    (λ c. omega arith)
+    (λ c. omega arith)
+    loop-again
+    (λ c. search needs)
+    returns)
