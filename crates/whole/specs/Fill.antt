@@ -32,9 +32,6 @@ module _ {A : Type 0} {f : ℕ → A} {old : List A} where
   wrote-none = record { within = zero-le; long = refl; is = refl }
 
   module _ {i : ℕ} {now : List A} where
-    pub wrote-long : Wrote f old i now → length now ≡ length old
-    wrote-long w = w .long
-
     -- what is still to be written is as it was
     pub wrote-ahead : (d : A) → Wrote f old i now → getD now i d ≡ getD old i d
     wrote-ahead d w =
