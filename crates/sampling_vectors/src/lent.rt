@@ -1,12 +1,12 @@
 // The candidate rules over a lent stream. Each output is full of bytes A5 before the call, so that a refusal that touched it would show.
+use answers::Answer;
 use cases::Number;
-use sampling::Taken;
 ghost use mathlib.Core.Path.{_≡_};
 ghost use Prim.Native.Nat.{_*_, _≤_};
 ghost use lib.ListN.{length};
 
 // Writes the answer's number as one byte.
-fn print_answer(t: Taken) {
+fn print_answer(t: Answer) {
     let number = [t.number()];
     cases::print_hex(&number);
 }

@@ -1,4 +1,5 @@
 // The four buffers, what is lent of them, and what a piece says of them.
+use answers::Answer;
 use cases::Number;
 use sets::SetI;
 use shake::Sponge;
@@ -96,6 +97,12 @@ pub fn length_at(given: &[u8], at: usize, most: usize) -> usize
     ensures { λ r. ⌜ r ≤ most ⌝ }
 {
     at_most(number(given, at), most)
+}
+
+// Writes document 01's number of the answer as a byte.
+pub fn print_answer(answered: Answer) {
+    let number = [answered.number()];
+    cases::print_hex(&number);
 }
 
 // Writes the hash of the bytes.

@@ -20,7 +20,6 @@
 // a record's whole buffer after the call, or of an output that is read into after the call, before which all its bytes are A5. Any other
 // letter writes an empty line, and what is no letter with a piece ends the run.
 mod algorithms;
-mod answers;
 mod buffers;
 mod reading;
 mod writing;

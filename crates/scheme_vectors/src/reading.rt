@@ -1,10 +1,10 @@
 // The records read into outputs of the lengths that are given. Every byte of an output is A5 before the call, so that a refusal that
 // touched it would show.
-use crate::answers;
 use crate::buffers::Lent;
 use crate::buffers::length_at;
 use crate::buffers::places_t;
 use crate::buffers::places_z;
+use crate::buffers::print_answer;
 use crate::buffers::print_hash;
 ghost use mathlib.Core.Path.{_≡_};
 ghost use Prim.Native.Nat.{_*_};
@@ -16,7 +16,7 @@ ghost use lib.ListN.{length};
 fn read_public(public: &[u8], t: &mut [u32], seed_a: &mut [u8], bytes: &mut [u8])
     requires { ⌜ length (now bytes) ≡ 4 * length (now t) ⌝ }
 {
-    answers::print_key_record(records::read_public(public, t, seed_a));
+    print_answer(records::read_public(public, t, seed_a));
     cases::values::of_u32(t, bytes);
     print_hash(bytes);
     print_hash(seed_a);
@@ -62,7 +62,7 @@ fn read_secret(
     seed_y: &mut [u8],
     g: &mut [u8],
 ) {
-    answers::print_key_record(records::read_secret(secret, s, e, seed_a, seed_y, g));
+    print_answer(records::read_secret(secret, s, e, seed_a, seed_y, g));
     print_hash(s);
     print_hash(e);
     print_hash(seed_a);
@@ -119,7 +119,7 @@ pub fn secret(given: &[u8], lent: Lent, secret: &[u8]) {
 fn read_signature(signature: &[u8], z: &mut [i32], c: &mut [u8], bytes: &mut [u8])
     requires { ⌜ length (now bytes) ≡ 4 * length (now z) ⌝ }
 {
-    answers::print_signature_record(signatures::read_signature(signature, z, c));
+    print_answer(signatures::read_signature(signature, z, c));
     cases::values::of_i32(z, bytes);
     print_hash(bytes);
     print_hash(c);

@@ -1,9 +1,9 @@
 // The records written from values in the memory, into what is lent of their buffers.
-use crate::answers;
 use crate::buffers::Lent;
 use crate::buffers::at_most;
 use crate::buffers::places_t;
 use crate::buffers::places_z;
+use crate::buffers::print_answer;
 use crate::buffers::print_hash;
 use crate::buffers::stretch;
 use crate::buffers::word;
@@ -29,7 +29,7 @@ fn write_public(bytes: &[u8], seed_a: &[u8], t: &mut [u32], public: &mut [u8])
     requires { ⌜ length (now t) ≤ 4100 ⌝ }
 {
     values_t(bytes, t);
-    answers::print_key_record(records::write_public(t, seed_a, public));
+    print_answer(records::write_public(t, seed_a, public));
 }
 
 // The same into what is lent, with t of as many values as there are bytes for.
@@ -59,7 +59,7 @@ pub fn public(given: &[u8], lent: Lent, memory: &[u8], public: &mut [u8]) {
 // What is given: the places of s, e_1..e_k, seed_a, seed_y and g.
 pub fn secret(given: &[u8], lent: Lent, memory: &[u8], secret: &mut [u8]) {
     let n = at_most(lent.secret, secret.len());
-    answers::print_key_record(records::write_secret(
+    print_answer(records::write_secret(
         stretch(memory, given, 0),
         stretch(memory, given, 4),
         stretch(memory, given, 8),
@@ -97,7 +97,7 @@ fn write_signature(bytes: &[u8], c: &[u8], z: &mut [i32], signature: &mut [u8])
     requires { ⌜ length (now z) ≤ 1028 ⌝ }
 {
     values_z(bytes, z);
-    answers::print_signature_record(signatures::write_signature(z, c, signature));
+    print_answer(signatures::write_signature(z, c, signature));
 }
 
 // The same into what is lent, with z of as many values as there are bytes for.

@@ -3,12 +3,12 @@
 -- Assumes nothing.
 use mathlib.Core.Path.{_≡_, refl, sym, ap, _∙_}
 use mathlib.Core.List.{List, [], _∷_, _++_}
-use Prim.Native.Nat.{ℕ, zero, suc, _+_, _-_, _≤_, _<_, zero-le}
+use Prim.Native.Nat.{ℕ, zero, suc, _+_, _-_, _≤_, _<_}
 use native.Mathlib.Numerals.{add-one}
 use native.Mathlib.Omega.{arith}
 use lib.ListN.{length, getD, take, set}
 use lib.Seq.{take-suc, getD-append-seam}
-use Rattle.whole.specs.Fill.{filled, filled-none, filled-more, filled-whole, length-filled}
+use Rattle.whole.specs.Fill.{Wrote, wrote-none, wrote-more, wrote-whole}
 use Rattle.shake.specs.declared.Sponge.{Sponge}
 use Rattle.shake.specs.Sponge.{absorbed, squeezed, afterSqueeze, bytesOf}
 use Rattle.shake.specs.Pieces.{absorbed-absorbed, squeezed-add, afterSqueeze-add, length-squeezed}
@@ -72,37 +72,27 @@ squeeze-byte n i s b l e =
 
 -- the first i bytes stand in out, and now is the sponge after them
 pub record SqueezedEach (s : Sponge) (old out : List ℕ) (now : Sponge) (i : ℕ) : Type 0 where
-  pub within : i ≤ length old
-  pub bytes : out ≡ filled i (squeezed (length old) s) old
+  pub bytes : Wrote (λ k. getD (squeezed (length old) s) k 0) old i out
   pub state : now ≡ afterEach i s
 
 pub each-none : (s : Sponge) (old : List ℕ) → SqueezedEach s old old s 0
 unfolding afterEach
-each-none s old = record { within = zero-le; bytes = filled-none (squeezed (length old) s) old; state = refl }
+each-none s old = record { bytes = wrote-none; state = refl }
 
 module _ {s : Sponge} {old out : List ℕ} {now : Sponge} {i : ℕ} (h : SqueezedEach s old out now i) where
   pub each-long : length out ≡ length old
-  each-long =
-      rw (h .bytes)
-      (length-filled i (squeezed (length old) s) old (rw (length-squeezed (length old) s) (h .within)) (h .within))
+  each-long = h .bytes .long
 
   pub each-byte : {b : ℕ} {next : Sponge} → i < length old → (b ∷ []) ≡ squeezed 1 now → next ≡ afterSqueeze 1 now
       → SqueezedEach s old (set out i b) next (i + 1)
   each-byte {b} {next} l e f =
       record {
-        within = rw add-one l;
-        bytes =
-            rw (h .bytes)
-            (filled-more i (squeezed (length old) s) old 0 b (rw (length-squeezed (length old) s) l) l
-            (squeeze-byte (length old) i s b l (e ∙ ap (squeezed 1) (h .state))));
+        bytes = wrote-more (h .bytes) (omega (arith, each-long)) (sym (squeeze-byte (length old) i s b l (e ∙ ap (squeezed 1) (h .state))));
         state = f ∙ ap (afterSqueeze 1) (h .state) ∙ squeeze-next i s;
       }
 
   pub each-all : length out ≤ i → (now ≡ afterEach (length old) s) × (out ≡ squeezed (length old) s)
   each-all l = (
-    h .state ∙ ap (λ (k : ℕ). afterEach k s) whole,
-    h .bytes ∙ rw whole (filled-whole (squeezed (length old) s) old (length-squeezed (length old) s)),
+    h .state ∙ ap (λ (k : ℕ). afterEach k s) (omega (arith, each-long, h .bytes .within)),
+    wrote-whole (squeezed (length old) s) 0 (h .bytes) (length-squeezed (length old) s) l,
   )
-    where
-      whole : i ≡ length old
-      whole = omega (arith, each-long, h .within)

@@ -39,8 +39,8 @@ slice-aggregate-make-key-2 c = simp length-take (omega arith)
 make-key-requires : tie.Need-make-key-requires
 make-key-requires c κs = search needs
 
-print-key-requires : tie.Need-print-key-requires
-print-key-requires c κs = search needs
+print-answer-requires : tie.Need-print-answer-requires
+print-answer-requires c κs = search needs
 
 print-hash-requires : tie.Need-print-hash-requires
 print-hash-requires c κs = search needs
@@ -72,7 +72,7 @@ make-key-spec =
     slice-relend-prefix-make-key-2
     slice-aggregate-make-key-2
     make-key-requires
-    print-key-requires
+    print-answer-requires
     print-hash-requires
     print-hash-requires-2
     same-length

@@ -33,8 +33,8 @@ slice-aggregate-write-secret c = simp length-take (omega arith)
 write-secret-requires : tie.Need-write-secret-requires
 write-secret-requires c κs = search needs
 
-print-key-record-requires : tie.Need-print-key-record-requires
-print-key-record-requires c κs = search needs
+print-answer-requires : tie.Need-print-answer-requires
+print-answer-requires c κs = search needs
 
 print-hash-requires : tie.Need-print-hash-requires
 print-hash-requires c κs = search needs
@@ -58,7 +58,7 @@ secret-spec =
     slice-relend-prefix-write-secret
     slice-aggregate-write-secret
     write-secret-requires
-    print-key-record-requires
+    print-answer-requires
     print-hash-requires
     same-length
     returns)
