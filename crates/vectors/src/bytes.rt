@@ -13,37 +13,6 @@ fn at_most(n: usize, most: usize) -> usize
     if n < most { n } else { most }
 }
 
-// The same, where most is how many there are of s.
-pub fn fit(n: usize, s: &[u8]) -> usize
-    ensures { λ r. ⌜ Held r (now (s .entry)) ⌝ }
-{
-    at_most(n, s.len())
-}
-
-pub fn fit_words(n: usize, s: &[u32]) -> usize
-    ensures { λ r. ⌜ Held r (now (s .entry)) ⌝ }
-{
-    at_most(n, s.len())
-}
-
-pub fn fit_signed(n: usize, s: &[i32]) -> usize
-    ensures { λ r. ⌜ Held r (now (s .entry)) ⌝ }
-{
-    at_most(n, s.len())
-}
-
-pub fn fit_pairs(n: usize, s: &[u16]) -> usize
-    ensures { λ r. ⌜ Held r (now (s .entry)) ⌝ }
-{
-    at_most(n, s.len())
-}
-
-pub fn fit_signs(n: usize, s: &[i8]) -> usize
-    ensures { λ r. ⌜ Held r (now (s .entry)) ⌝ }
-{
-    at_most(n, s.len())
-}
-
 fn wide(b: u8) -> u32
     ensures { λ r. ⌜ r < 256 ⌝ }
 {
@@ -82,6 +51,37 @@ pub fn number(s: &[u8], i: usize) -> usize {
     word(s, i) as usize
 }
 
+// Number i, or how many there are of s where that is less.
+pub fn fit(given: &[u8], i: usize, s: &[u8]) -> usize
+    ensures { λ r. ⌜ Held r (now (s .entry)) ⌝ }
+{
+    at_most(number(given, i), s.len())
+}
+
+pub fn fit_words(given: &[u8], i: usize, s: &[u32]) -> usize
+    ensures { λ r. ⌜ Held r (now (s .entry)) ⌝ }
+{
+    at_most(number(given, i), s.len())
+}
+
+pub fn fit_signed(given: &[u8], i: usize, s: &[i32]) -> usize
+    ensures { λ r. ⌜ Held r (now (s .entry)) ⌝ }
+{
+    at_most(number(given, i), s.len())
+}
+
+pub fn fit_pairs(given: &[u8], i: usize, s: &[u16]) -> usize
+    ensures { λ r. ⌜ Held r (now (s .entry)) ⌝ }
+{
+    at_most(number(given, i), s.len())
+}
+
+pub fn fit_signs(given: &[u8], i: usize, s: &[i8]) -> usize
+    ensures { λ r. ⌜ Held r (now (s .entry)) ⌝ }
+{
+    at_most(number(given, i), s.len())
+}
+
 // The len bytes from start on, or as many of them as there are.
 pub fn part(s: &[u8], start: usize, len: usize) -> &[u8] {
     let from = at_most(start, s.len());
@@ -96,7 +96,7 @@ pub fn rest(s: &[u8], start: usize) -> &[u8] {
 }
 
 // Copies the bytes into `to` from start on, as many as there is room for.
-pub fn copy(from: &[u8], to: &mut [u8], start: usize) {
+fn copy(from: &[u8], to: &mut [u8], start: usize) {
     let at = at_most(start, to.len());
     let n = at_most(from.len(), to.len() - at);
     let mut i = 0;
@@ -104,6 +104,16 @@ pub fn copy(from: &[u8], to: &mut [u8], start: usize) {
         to[at + i] = from[i];
         i += 1;
     }
+}
+
+// Takes the bytes of the memory from number i on.
+pub fn load(memory: &[u8], given: &[u8], i: usize, to: &mut [u8]) {
+    copy(rest(memory, number(given, i)), to, 0);
+}
+
+// Puts the bytes into the memory from number i on.
+pub fn store(from: &[u8], memory: &mut [u8], given: &[u8], i: usize) {
+    copy(from, memory, number(given, i));
 }
 
 // ---- written
@@ -136,7 +146,7 @@ pub fn print_squeezed(sponge: Sponge) {
 }
 
 // The hash of the first n bytes.
-pub fn print_hash(bytes: &[u8], n: usize) {
+pub fn hash(bytes: &[u8], n: usize) {
     print_squeezed(Sponge::blank().absorb(part(bytes, 0, n)));
 }
 
@@ -171,22 +181,30 @@ fn signed(x: u32) -> i32 {
     }
 }
 
-// Values of the bytes, one for each place.
-pub fn words(bytes: &[u8], values: &mut [u32]) {
+// Values of the bytes, as many as there are places for. Answers how many.
+pub fn words(bytes: &[u8], values: &mut [u32]) -> usize
+    ensures { λ r. ⌜ Held r (now (values .exit)) ⌝ }
+{
+    let n = at_most(bytes.len() / 4, values.len());
     let mut i = 0;
-    while i < values.len() {
+    while i < n {
         values[i] = word(bytes, i);
         i += 1;
     }
+    n
 }
 
 // The same, two's complement.
-pub fn signed_words(bytes: &[u8], values: &mut [i32]) {
+pub fn signed_words(bytes: &[u8], values: &mut [i32]) -> usize
+    ensures { λ r. ⌜ Held r (now (values .exit)) ⌝ }
+{
+    let n = at_most(bytes.len() / 4, values.len());
     let mut i = 0;
-    while i < values.len() {
+    while i < n {
         values[i] = signed(word(bytes, i));
         i += 1;
     }
+    n
 }
 
 // Absorbs v in 4 bytes, and writes them where they are shown.
@@ -212,9 +230,9 @@ pub fn absorb_words(sponge: Sponge, values: &[u32], n: usize, shown: bool) -> Sp
 }
 
 // The same, two's complement.
-pub fn absorb_signed(sponge: Sponge, values: &[i32], n: usize, shown: bool) -> Sponge {
+fn absorb_signed(values: &[i32], n: usize, shown: bool) -> Sponge {
     let most = at_most(n, values.len());
-    let mut state = sponge;
+    let mut state = Sponge::blank();
     let mut i = 0;
     while i < most {
         let next = absorb_word(state, bits_of(values[i]), shown);
@@ -222,6 +240,24 @@ pub fn absorb_signed(sponge: Sponge, values: &[i32], n: usize, shown: bool) -> S
         i += 1;
     }
     state
+}
+
+// The first n values, in 4 bytes each.
+pub fn print_words(values: &[u32], n: usize) {
+    absorb_words(Sponge::blank(), values, n, true);
+}
+
+pub fn print_signed(values: &[i32], n: usize) {
+    absorb_signed(values, n, true);
+}
+
+// Their hash.
+pub fn hash_words(values: &[u32], n: usize) {
+    print_squeezed(absorb_words(Sponge::blank(), values, n, false));
+}
+
+pub fn hash_signed(values: &[i32], n: usize) {
+    print_squeezed(absorb_signed(values, n, false));
 }
 
 // The first n values, in 2 bytes each.

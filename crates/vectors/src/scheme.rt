@@ -18,7 +18,6 @@
 // start on, of which its length is lent, and the hash is that of the room after the call. Lengths of what is read count its values, and
 // every byte of it is A5 before the call.
 use crate::bytes;
-use shake::Sponge;
 use signing::Signed;
 ghost use mathlib.Core.Path.{_≡_};
 ghost use Prim.Native.Nat.{_<_};
@@ -61,8 +60,8 @@ fn stretch<'a>(memory: &'a [u8], given: &[u8], i: usize) -> &'a [u8]
 // ---- the algorithms
 
 fn make_into(given: &[u8], memory: &[u8], public: &mut [u8], secret: &mut [u8]) {
-    let p = bytes::fit(bytes::number(given, 1), public);
-    let s = bytes::fit(bytes::number(given, 3), secret);
+    let p = bytes::fit(given, 1, public);
+    let s = bytes::fit(given, 3, secret);
     bytes::print_answer(keys::make_key(
         stretch(memory, given, 4),
         stretch(memory, given, 6),
@@ -71,26 +70,18 @@ fn make_into(given: &[u8], memory: &[u8], public: &mut [u8], secret: &mut [u8]) 
         &mut public[..p],
         &mut secret[..s],
     ));
-    bytes::print_hash(public, ROOM);
-    bytes::print_hash(secret, ROOM);
+    bytes::hash(public, ROOM);
+    bytes::hash(secret, ROOM);
 }
 
 fn make_key(given: &[u8], memory: &mut [u8]) {
     let mut public = room();
     let mut secret = room();
-    bytes::copy(
-        bytes::part(memory, bytes::number(given, 0), ROOM),
-        &mut public,
-        0,
-    );
-    bytes::copy(
-        bytes::part(memory, bytes::number(given, 2), ROOM),
-        &mut secret,
-        0,
-    );
+    bytes::load(memory, given, 0, &mut public);
+    bytes::load(memory, given, 2, &mut secret);
     make_into(given, memory, &mut public, &mut secret);
-    bytes::copy(&public, memory, bytes::number(given, 0));
-    bytes::copy(&secret, memory, bytes::number(given, 2));
+    bytes::store(&public, memory, given, 0);
+    bytes::store(&secret, memory, given, 2);
 }
 
 fn print_signed(signed: Signed) {
@@ -120,8 +111,7 @@ fn check(given: &[u8], memory: &[u8]) {
 // ---- the records written
 
 fn write_t(t_bytes: &[u8], seed_a: &[u8], t: &mut [u32], public: &mut [u8]) {
-    bytes::words(t_bytes, t);
-    let n = bytes::fit_words(t_bytes.len() / 4, t);
+    let n = bytes::words(t_bytes, t);
     bytes::print_answer(records::write_public(&t[..n], seed_a, public));
 }
 
@@ -147,8 +137,7 @@ fn write_secret(given: &[u8], memory: &[u8], secret: &mut [u8]) {
 }
 
 fn write_z(z_bytes: &[u8], c: &[u8], z: &mut [i32], signature: &mut [u8]) {
-    bytes::signed_words(z_bytes, z);
-    let n = bytes::fit_signed(z_bytes.len() / 4, z);
+    let n = bytes::signed_words(z_bytes, z);
     bytes::print_answer(signatures::write_signature(&z[..n], c, signature));
 }
 
@@ -174,54 +163,52 @@ fn write_lent(letter: u8, given: &[u8], memory: &[u8], lent: &mut [u8]) {
 
 // One record into its room.
 fn write_into(letter: u8, given: &[u8], memory: &[u8], room: &mut [u8]) {
-    let n = bytes::fit(bytes::number(given, 1), room);
+    let n = bytes::fit(given, 1, room);
     write_lent(letter, given, memory, &mut room[..n]);
-    bytes::print_hash(room, ROOM);
+    bytes::hash(room, ROOM);
 }
 
 fn write_record(letter: u8, given: &[u8], memory: &mut [u8]) {
     let mut written = room();
-    bytes::copy(
-        bytes::part(memory, bytes::number(given, 0), ROOM),
-        &mut written,
-        0,
-    );
+    bytes::load(memory, given, 0, &mut written);
     write_into(letter, given, memory, &mut written);
-    bytes::copy(&written, memory, bytes::number(given, 0));
+    bytes::store(&written, memory, given, 0);
 }
 
 // ---- the records read
 
-fn read_public_into(given: &[u8], public: &[u8], t: &mut [u32], seed_a: &mut [u8]) {
-    let n = bytes::fit_words(bytes::number(given, 2), t);
-    let m = bytes::fit(bytes::number(given, 3), seed_a);
-    bytes::print_answer(records::read_public(public, &mut t[..n], &mut seed_a[..m]));
-    bytes::print_squeezed(bytes::absorb_words(Sponge::blank(), t, n, false));
-    bytes::print_hash(seed_a, m);
-}
-
 fn read_public(given: &[u8], memory: &[u8]) {
-    let mut t = places_t();
-    let mut seed_a = room();
-    read_public_into(given, stretch(memory, given, 0), &mut t, &mut seed_a);
+    let mut places = places_t();
+    let t: &mut [u32] = &mut places;
+    let n = bytes::fit_words(given, 2, t);
+    let mut room = room();
+    let seed_a: &mut [u8] = &mut room;
+    let m = bytes::fit(given, 3, seed_a);
+    bytes::print_answer(records::read_public(
+        stretch(memory, given, 0),
+        &mut t[..n],
+        &mut seed_a[..m],
+    ));
+    bytes::hash_words(t, n);
+    bytes::hash(seed_a, m);
 }
 
 fn read_secret(given: &[u8], memory: &[u8]) {
     let mut room_s = room();
     let s: &mut [u8] = &mut room_s;
-    let n = bytes::fit(bytes::number(given, 2), s);
+    let n = bytes::fit(given, 2, s);
     let mut room_e = room();
     let e: &mut [u8] = &mut room_e;
-    let kn = bytes::fit(bytes::number(given, 3), e);
+    let kn = bytes::fit(given, 3, e);
     let mut room_a = room();
     let seed_a: &mut [u8] = &mut room_a;
-    let long_a = bytes::fit(bytes::number(given, 4), seed_a);
+    let long_a = bytes::fit(given, 4, seed_a);
     let mut room_y = room();
     let seed_y: &mut [u8] = &mut room_y;
-    let long_y = bytes::fit(bytes::number(given, 5), seed_y);
+    let long_y = bytes::fit(given, 5, seed_y);
     let mut room_g = room();
     let g: &mut [u8] = &mut room_g;
-    let long_g = bytes::fit(bytes::number(given, 6), g);
+    let long_g = bytes::fit(given, 6, g);
     bytes::print_answer(records::read_secret(
         stretch(memory, given, 0),
         &mut s[..n],
@@ -230,30 +217,32 @@ fn read_secret(given: &[u8], memory: &[u8]) {
         &mut seed_y[..long_y],
         &mut g[..long_g],
     ));
-    bytes::print_hash(s, n);
-    bytes::print_hash(e, kn);
-    bytes::print_hash(seed_a, long_a);
-    bytes::print_hash(seed_y, long_y);
-    bytes::print_hash(g, long_g);
-}
-
-fn read_signature_into(given: &[u8], signature: &[u8], z: &mut [i32], c: &mut [u8]) {
-    let n = bytes::fit_signed(bytes::number(given, 2), z);
-    let m = bytes::fit(bytes::number(given, 3), c);
-    bytes::print_answer(signatures::read_signature(signature, &mut z[..n], &mut c[..m]));
-    bytes::print_squeezed(bytes::absorb_signed(Sponge::blank(), z, n, false));
-    bytes::print_hash(c, m);
+    bytes::hash(s, n);
+    bytes::hash(e, kn);
+    bytes::hash(seed_a, long_a);
+    bytes::hash(seed_y, long_y);
+    bytes::hash(g, long_g);
 }
 
 fn read_signature(given: &[u8], memory: &[u8]) {
-    let mut z = places_z();
-    let mut c = room();
-    read_signature_into(given, stretch(memory, given, 0), &mut z, &mut c);
+    let mut places = places_z();
+    let z: &mut [i32] = &mut places;
+    let n = bytes::fit_signed(given, 2, z);
+    let mut room = room();
+    let c: &mut [u8] = &mut room;
+    let m = bytes::fit(given, 3, c);
+    bytes::print_answer(signatures::read_signature(
+        stretch(memory, given, 0),
+        &mut z[..n],
+        &mut c[..m],
+    ));
+    bytes::hash_signed(z, n);
+    bytes::hash(c, m);
 }
 
 pub fn run(letter: u8, given: &[u8], memory: &mut [u8]) {
     match letter {
-        b'W' => bytes::copy(bytes::rest(given, 4), memory, bytes::number(given, 0)),
+        b'W' => bytes::store(bytes::rest(given, 4), memory, given, 0),
         b'K' => make_key(given, memory),
         b'C' => check(given, memory),
         b'Q' => read_public(given, memory),

@@ -32,16 +32,13 @@ fn squeeze_each(sponge: Sponge, n: usize) -> Sponge {
     state
 }
 
-fn squeeze_into(sponge: Sponge, out: &mut [u8], n: usize) -> Sponge {
-    let most = bytes::fit(n, out);
-    let next = sponge.squeeze(&mut out[..most]);
-    bytes::print(bytes::part(out, 0, most));
+fn squeeze(sponge: Sponge, given: &[u8]) -> Sponge {
+    let mut buffer = io::buffer();
+    let out: &mut [u8] = &mut buffer;
+    let n = bytes::fit(given, 0, out);
+    let next = sponge.squeeze(&mut out[..n]);
+    bytes::print(bytes::part(out, 0, n));
     next
-}
-
-fn squeeze(sponge: Sponge, n: usize) -> Sponge {
-    let mut out = io::buffer();
-    squeeze_into(sponge, &mut out, n)
 }
 
 fn block(sponge: Sponge) -> Sponge {
@@ -56,7 +53,7 @@ pub fn run(letter: u8, given: &[u8], state: Sponge) -> Sponge {
     match letter {
         b'<' => state.absorb(given),
         b'(' => absorb_each(state, given),
-        b'>' => squeeze(state, bytes::number(given, 0)),
+        b'>' => squeeze(state, given),
         b')' => squeeze_each(state, bytes::number(given, 0)),
         b'=' => block(state),
         _ => Sponge::blank(),

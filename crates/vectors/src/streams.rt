@@ -45,40 +45,36 @@ fn places_of_signs() -> [i8; 2048]
     [-91; 2048]
 }
 
-fn take_a(stream: &[u8], need: usize, out: &mut [u32]) {
-    let n = bytes::fit_words(need, out);
-    bytes::print_answer(sampling::take_a(stream, &mut out[..n]));
-    bytes::absorb_words(Sponge::blank(), out, n, true);
-}
-
-fn take_y(stream: &[u8], need: usize, out: &mut [i32]) {
-    let n = bytes::fit_signed(need, out);
-    bytes::print_answer(sampling::take_y(stream, &mut out[..n]));
-    bytes::absorb_signed(Sponge::blank(), out, n, true);
-}
-
-fn take_positions(stream: &[u8], given: &[u8], positions: &mut [u16], signs: &mut [i8]) {
-    let n = bytes::fit_pairs(bytes::number(given, 0), positions);
-    let m = bytes::fit_signs(bytes::number(given, 1), signs);
-    bytes::print_answer(sampling::take_positions(stream, &mut positions[..n], &mut signs[..m]));
-    bytes::print_pairs(positions, n);
-    bytes::print_signs(signs, m);
-}
-
 fn lent_a(given: &[u8]) {
-    let mut out = places_a();
-    take_a(bytes::rest(given, 4), bytes::number(given, 0), &mut out);
+    let mut places = places_a();
+    let out: &mut [u32] = &mut places;
+    let n = bytes::fit_words(given, 0, out);
+    bytes::print_answer(sampling::take_a(bytes::rest(given, 4), &mut out[..n]));
+    bytes::print_words(out, n);
 }
 
 fn lent_y(given: &[u8]) {
-    let mut out = places_y();
-    take_y(bytes::rest(given, 4), bytes::number(given, 0), &mut out);
+    let mut places = places_y();
+    let out: &mut [i32] = &mut places;
+    let n = bytes::fit_signed(given, 0, out);
+    bytes::print_answer(sampling::take_y(bytes::rest(given, 4), &mut out[..n]));
+    bytes::print_signed(out, n);
 }
 
 fn lent_positions(given: &[u8]) {
-    let mut positions = places();
-    let mut signs = places_of_signs();
-    take_positions(bytes::rest(given, 8), given, &mut positions, &mut signs);
+    let mut places = places();
+    let positions: &mut [u16] = &mut places;
+    let n = bytes::fit_pairs(given, 0, positions);
+    let mut places_of_signs = places_of_signs();
+    let signs: &mut [i8] = &mut places_of_signs;
+    let m = bytes::fit_signs(given, 1, signs);
+    bytes::print_answer(sampling::take_positions(
+        bytes::rest(given, 8),
+        &mut positions[..n],
+        &mut signs[..m],
+    ));
+    bytes::print_pairs(positions, n);
+    bytes::print_signs(signs, m);
 }
 
 // ---- drawn
@@ -110,7 +106,7 @@ fn drawn_y(given: &[u8]) {
     let counter = (bytes::word(given, 0) % 65536) as u16;
     let mut y = [0i32; SetI::N];
     sampling::drawn::draw_y(SetI::numbers(), bytes::rest(given, 4), counter, &mut y);
-    bytes::print_squeezed(bytes::absorb_signed(Sponge::blank(), &y, SetI::N, false));
+    bytes::hash_signed(&y, SetI::N);
 }
 
 fn enc(c: &[u8]) {

@@ -1,16 +1,18 @@
--- `bytes::signed_words` is safe and ends. The output keeps its length. Assumes nothing.
+-- `bytes::signed_words` meets its contract. The output keeps its length. Assumes nothing.
 use borrow.Author.Needs.{needs}
 use mathlib.Core.Path.{_≡_}
-use Prim.Native.Nat.{_-_}
+use Prim.Native.Nat.{_≤_, _-_}
 use lib.ListN.{length}
+use native.Mathlib.Omega.{arith}
+use Rattle.vectors.specs.Held.{held}
 use Rattle.vectors.proofs.bytes.signed_words.Statement.{statement}
 use Rattle.vectors.proofs.bytes.signed_words.Tie as tie
 
 abbrev Inv-loop : tie.InvT-loop
-Inv-loop bytes values₀ i₀ values i = length values ≡ length values₀
+Inv-loop bytes values₀ n i₀ values i = (i ≤ n) × (length values ≡ length values₀)
 
 abbrev μ-loop : tie.MeasureT-loop
-μ-loop bytes values₀ i₀ values i = length values₀ - i
+μ-loop bytes values₀ n i₀ values i = n - i
 
 pub signed-words-spec : {M : Type 1} → statement M
 signed-words-spec =
@@ -18,6 +20,7 @@ signed-words-spec =
     (tie.spec
     Inv-loop
     μ-loop
+    (λ c κs. search needs)
     (λ c. search needs)
     (λ c κs. search needs)
     (λ c κs. search needs)
@@ -27,4 +30,4 @@ signed-words-spec =
     (λ c. search needs)
     (λ c. search needs)
     (λ c. search needs)
-    (λ c. search needs))
+    (λ c. held _ _ (omega arith)))
