@@ -1,13 +1,11 @@
-"""The cases of sampling_vectors: the candidate rules over a lent stream, and the seven streams.
-
-A case is a letter and a piece, whose length of two bytes stands before it:
+"""The vector program's cases of the candidate rules over a lent stream, and of the seven streams:
 
     a needed, stream          y needed, stream      p needed, signs, stream   over a lent stream
-    A seed_a                  Y counter, rand       E c'                      drawn
-    M message                 K packed t_1..t_k     R seed_y, r, G            hashed
-    H G, g, high parts
+    d seed_a                  s counter, rand       e c'                      drawn
+    m message                 g packed t_1..t_k     r seed_y, r, G            hashed
+    c G, g, high parts
 
-A number has two bytes, low first. Over a lent stream the line has the answer's number and the
+Over a lent stream the line has the answer's number and the
 outputs after the call, whose bytes are A5 before it. a_1..a_k and y are written as SHAKE256 of
 their values.
 """
@@ -15,29 +13,16 @@ their values.
 import random
 
 from answers import DONE
+from cases import UNTOUCHED, case, hashed, number
 from records import pack, pack_signed, packed_t
 from sets import DIGEST_BYTES, SEED_BYTES, SET_I
 from streams import (A_BYTES, POSITION_BYTES, Y_BYTES, digest_of_key, digest_of_message, drawn_a,
-                     drawn_rand, drawn_y, enc, hash_of_high_parts, shake256, take_a,
-                     take_positions, take_y)
+                     drawn_rand, drawn_y, enc, hash_of_high_parts, take_a, take_positions,
+                     take_y)
 
 MOST = 2048              # places of an output in the program
-UNTOUCHED = b"\xa5"
 COUNTERS = [1, 2, 255, 256, 1024, 65535]
 MESSAGE_LENGTHS = [0, 1, *range(133, 139), 1000, 4096, 8191]
-
-
-def case(letter, piece, *output):
-    """The case's bytes, and the bytes of its line."""
-    return letter + two_bytes(len(piece)) + piece, b"".join(output)
-
-
-def two_bytes(number):
-    return number.to_bytes(2, "little")
-
-
-def hashed(data):
-    return shake256(data, 32)[1]
 
 
 # Over a lent stream.
@@ -45,19 +30,19 @@ def hashed(data):
 def lent_a(stream, needed):
     answer, values = take_a(SET_I, stream, needed)
     out = pack(values, 32) if answer == DONE else UNTOUCHED * (4 * needed)
-    return case(b"a", two_bytes(needed) + stream, bytes([answer]), out)
+    return case(b"a", number(needed) + stream, bytes([answer]), out)
 
 
 def lent_y(stream, needed):
     answer, values = take_y(SET_I, stream, needed)
     out = pack_signed(values, 32) if answer == DONE else UNTOUCHED * (4 * needed)
-    return case(b"y", two_bytes(needed) + stream, bytes([answer]), out)
+    return case(b"y", number(needed) + stream, bytes([answer]), out)
 
 
 def lent_positions(stream, needed, signs):
     answer, taken = take_positions(SET_I, stream, needed, signs)
     out = places_bytes(taken) if answer == DONE else UNTOUCHED * (2 * needed + signs)
-    return case(b"p", two_bytes(needed) + two_bytes(signs) + stream, bytes([answer]), out)
+    return case(b"p", number(needed) + number(signs) + stream, bytes([answer]), out)
 
 
 def places_bytes(taken):
@@ -145,15 +130,15 @@ def drawn_cases(rng):
     for _ in range(8):
         seed = rng.randbytes(SEED_BYTES)
         values = [value for polynomial in drawn_a(SET_I, seed) for value in polynomial]
-        yield case(b"A", seed, hashed(pack(values, 32)))
+        yield case(b"d", seed, hashed(pack(values, 32)))
     for _ in range(4):
         rand = rng.randbytes(SEED_BYTES)
         for counter in COUNTERS:
             values = drawn_y(SET_I, rand, counter)
-            yield case(b"Y", two_bytes(counter) + rand, hashed(pack_signed(values, 32)))
+            yield case(b"s", number(counter) + rand, hashed(pack_signed(values, 32)))
     for _ in range(24):
         c = rng.randbytes(SEED_BYTES)
-        yield case(b"E", c, places_bytes(enc(SET_I, c)))
+        yield case(b"e", c, places_bytes(enc(SET_I, c)))
 
 
 # Hashed.
@@ -161,14 +146,14 @@ def drawn_cases(rng):
 def hashed_cases(rng):
     for length in MESSAGE_LENGTHS:
         message = rng.randbytes(length)
-        yield case(b"M", message, digest_of_message(SET_I, message))
+        yield case(b"m", message, digest_of_message(SET_I, message))
     for _ in range(2):
         packed = packed_t(SET_I, [rng.randrange(SET_I.q) for _ in range(SET_I.k * SET_I.n)])
-        yield case(b"K", packed, digest_of_key(SET_I, packed))
+        yield case(b"g", packed, digest_of_key(SET_I, packed))
     for _ in range(6):
         seed_y, r = rng.randbytes(SEED_BYTES), rng.randbytes(SEED_BYTES)
         digest = rng.randbytes(DIGEST_BYTES)
-        yield case(b"R", seed_y + r + digest, drawn_rand(SET_I, seed_y, r, digest))
+        yield case(b"r", seed_y + r + digest, drawn_rand(SET_I, seed_y, r, digest))
     for furthest in (0, 1, 41, 127):
         yield challenge(rng, [rng.randint(-furthest, furthest) for _ in range(SET_I.k * SET_I.n)])
     for few in ([], [-128], [-1, 0, 1], [127] * 54, [-41] * 55):
@@ -177,13 +162,10 @@ def hashed_cases(rng):
 
 def challenge(rng, high_parts):
     digest, g = rng.randbytes(DIGEST_BYTES), rng.randbytes(DIGEST_BYTES)
-    return case(b"H", digest + g + pack_signed(high_parts, 8),
+    return case(b"c", digest + g + pack_signed(high_parts, 8),
                 hash_of_high_parts(SET_I, high_parts, digest, g))
 
 
-def sampling_vectors():
+def sampling_cases():
     rng = random.Random("sampling_vectors")
-    cases = [*lent_cases(rng), *drawn_cases(rng), *hashed_cases(rng)]
-    stdin = b"".join(given for given, _ in cases)
-    stdout = b"".join(output.hex().encode() + b"\n" for _, output in cases)
-    return stdin, stdout
+    return [*lent_cases(rng), *drawn_cases(rng), *hashed_cases(rng)]

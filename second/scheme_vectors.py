@@ -1,19 +1,19 @@
-"""The cases of scheme_vectors: whole keys, signatures and checks, and the three records.
+"""The vector program's cases of whole keys, signatures and checks, and of the three records.
 
-The program keeps four buffers between its cases: the public, the secret and the signature record,
-and a memory. A case is a letter and a piece, whose length of two bytes stands before it:
+The program keeps a memory between these cases. A place is the start and the length of a stretch of
+it. The three records have their places, and what the calls are given has others:
 
-    W buffer, start, bytes       writes into a buffer           L buffer, length   lends so much
-    K places of s, e, seed_a, seed_y                            makes a key
-    S places of r, message; budget                              signs
-    C place of the message                                      checks
-    P places of t, seed_a                   p lengths           writes, reads the public record
-    E places of s, e, seed_a, seed_y, g     e lengths           the secret record
-    Z places of z, c'                       z lengths           the signature record
+    W start, bytes                                            writes into the memory
+    K places of public, secret, s, e, seed_a, seed_y          makes a key
+    S places of signature, secret, message, r; budget         signs
+    C places of public, message, signature                    checks
+    P places of public, t, seed_a                 Q lengths   writes, reads the public record
+    E places of secret, s, e, seed_a, seed_y, g   F lengths   the secret record
+    Z places of signature, z, c'                  Y lengths   the signature record
 
-A place is the start and the length of a stretch of the memory. The line has the answer's number,
-after signing the counter, and SHAKE256 of each output after the call. Outputs that are read into
-are full of bytes A5 before it. Every number has its low byte first.
+Where a record is read, its place stands before the lengths of the outputs. The line has the
+answer's number, after signing the counter in two bytes, and SHAKE256 of each output after the call:
+of a record's whole room where it is written. Outputs that are read into are full of bytes A5 before.
 """
 
 import random
@@ -22,21 +22,21 @@ from itertools import combinations
 
 from answers import (BUDGET, CHECK_E, CHECK_S, DONE, HASH, LENGTH, MARK, MESSAGE, NO_COUNTER,
                      VALUE, Z)
+from cases import UNTOUCHED, case, hashed, number as number_bytes
 from records import (MINUS_128, pack, pack_signed, read_public, read_secret, read_signature,
                      signed_bytes, unpack, unpack_signed, write_public, write_secret,
                      write_signature)
 from scheme import check, make_key, sign
 from sets import (BUDGET_LIMIT, DIGEST_BYTES, MARK_BYTES, MESSAGE_LIMIT, SEED_BYTES, SET_I,
                   bytes_for)
-from streams import shake256
 from sums import check_e, check_s, sum_of_largest
 
-UNTOUCHED = b"\xa5"
-RECORD_ROOM, MEMORY_ROOM = 16384, 65536
-PUBLIC, SECRET, SIGNATURE, MEMORY = range(4)
+ROOM = 16384             # of each record
+PUBLIC, SECRET, SIGNATURE = RECORDS = (65536, 65536 + ROOM, 65536 + 2 * ROOM)
+MEMORY = 65536 + 3 * ROOM
 N, KN = SET_I.n, SET_I.k * SET_I.n
 
-# Where each value starts in the memory.
+# Where each value starts in the memory. PUBLIC, SECRET and SIGNATURE are where the records do.
 MESSAGE_AT = 0
 R_AT = 33000
 S_AT = 34000
@@ -61,73 +61,62 @@ WRITE_SIGNATURE = dict(z=(Z_AT, 4 * N), c=(C_AT, SEED_BYTES))
 READ_SIGNATURE = dict(z=N, c=SEED_BYTES)
 
 
-def two_bytes(number):
-    return number.to_bytes(2, "little")
-
-
-def hashed(data):
-    return shake256(data, 32)[1]
-
-
 class Machine:
-    """The program's buffers, and the cases so far: each with its bytes and those of its line."""
+    """The program's memory, and the cases so far: each with its bytes and those of its line."""
 
     def __init__(self):
-        self.buffers = [bytearray(UNTOUCHED * RECORD_ROOM) for _ in range(3)]
-        self.buffers.append(bytearray(UNTOUCHED * MEMORY_ROOM))
-        self.lengths = [SET_I.public_length, SET_I.secret_length, SET_I.signature_length]
+        self.memory = bytearray(UNTOUCHED * MEMORY)
+        self.lengths = dict(zip(RECORDS, (SET_I.public_length, SET_I.secret_length,
+                                          SET_I.signature_length)))   # lent of each record
         self.counter = 0   # of the last signature
         self.cases = []
 
-    def case(self, letter, piece, *output):
-        self.cases.append((letter + two_bytes(len(piece)) + piece, b"".join(output)))
+    def case(self, letter, places, number, *output, also=()):
+        """A call with its places, then what it is given beside them."""
+        piece = b"".join(map(number_bytes, [*sum(places, ()), *also]))
+        self.cases.append(case(letter, piece, bytes([number]), *output))
 
-    # What only changes the buffers.
-
-    def write(self, buffer, start, data):
-        self.case(b"W", bytes([buffer]) + two_bytes(start) + data)
-        if start + len(data) <= len(self.buffers[buffer]):
-            self.buffers[buffer][start:start + len(data)] = data
-
-    def lend(self, record, length):
-        self.case(b"L", bytes([record]) + two_bytes(length))
-        self.lengths[record] = length
+    def write(self, start, data):
+        self.cases.append(case(b"W", number_bytes(start) + data))
+        self.memory[start:start + len(data)] = data
 
     @contextmanager
-    def written(self, buffer, start, data):
-        """The bytes stand in the buffer for a while."""
-        before = bytes(self.buffers[buffer][start:start + len(data)])
-        self.write(buffer, start, data)
+    def written(self, start, data):
+        """The bytes stand in the memory for a while."""
+        before = self.stretch((start, len(data)))
+        self.write(start, data)
         yield
-        self.write(buffer, start, before)
+        self.write(start, before)
 
     @contextmanager
     def lent(self, record, length):
         """So many bytes of a record are lent for a while."""
         before = self.lengths[record]
-        self.lend(record, length)
+        self.lengths[record] = length
         yield
-        self.lend(record, before)
+        self.lengths[record] = before
 
-    # What stands in them.
+    # What stands in the memory.
+
+    def place(self, record):
+        """The place of what is lent of a record."""
+        return record, self.lengths[record]
 
     def record(self, record):
-        """What is lent of a record."""
-        return bytes(self.buffers[record][:self.lengths[record]])
+        return self.stretch(self.place(record))
 
     def room(self, record):
-        return len(self.record(record))
+        return self.lengths[record]
 
     def stretch(self, place):
         start, length = place
-        fits = start + length <= MEMORY_ROOM
-        return bytes(self.buffers[MEMORY][start:start + length]) if fits else b""
+        return bytes(self.memory[start:start + length])
 
     def after(self, record, number, made):
-        """Takes what a call wrote into a record. Answers SHAKE256 of its buffer after the call."""
+        """Takes what a call wrote into a record. Answers SHAKE256 of its room after the call."""
         if number == DONE:
-            self.buffers[record][:len(made)] = made
-        return hashed(bytes(self.buffers[record]))
+            self.memory[record:record + len(made)] = made
+        return hashed(self.stretch((record, ROOM)))
 
     # The calls. Each answers its number.
 
@@ -135,21 +124,21 @@ class Machine:
         number, made = make_key(SET_I, *map(self.stretch, places), self.room(PUBLIC),
                                 self.room(SECRET))
         public, secret = made or (None, None)
-        self.case(b"K", place_bytes(places), bytes([number]),
+        self.case(b"K", [self.place(PUBLIC), self.place(SECRET), *places], number,
                   self.after(PUBLIC, number, public), self.after(SECRET, number, secret))
         return number
 
     def sign(self, r, message, budget):
         number, self.counter, made = sign(SET_I, self.record(SECRET), self.stretch(message),
                                           self.stretch(r), budget, self.room(SIGNATURE))
-        self.case(b"S", place_bytes([r, message]) + budget.to_bytes(4, "little"),
-                  bytes([number]), two_bytes(self.counter),
-                  self.after(SIGNATURE, number, made))
+        self.case(b"S", [self.place(SIGNATURE), self.place(SECRET), message, r], number,
+                  self.counter.to_bytes(2, "little"), self.after(SIGNATURE, number, made),
+                  also=[budget])
         return number
 
     def check(self, message):
         number = check(SET_I, self.record(PUBLIC), self.stretch(message), self.record(SIGNATURE))
-        self.case(b"C", place_bytes([message]), bytes([number]))
+        self.case(b"C", [self.place(PUBLIC), message, self.place(SIGNATURE)], number)
         return number
 
     def write_public(self, t, seed_a):
@@ -168,34 +157,30 @@ class Machine:
 
     def wrote(self, letter, places, record, answered):
         number, made = answered
-        self.case(letter, place_bytes(places), bytes([number]), self.after(record, number, made))
+        self.case(letter, [self.place(record), *places], number,
+                  self.after(record, number, made))
         return number
 
     def read_public(self, *lengths):
         number, values = read_public(SET_I, self.record(PUBLIC), *lengths)
-        return self.read(b"p", lengths, (4, 1), number,
+        return self.read(b"Q", PUBLIC, lengths, (4, 1), number,
                          values and (pack(values[0], 32), values[1]))
 
     def read_secret(self, *lengths):
-        return self.read(b"e", lengths, (1,) * 5,
+        return self.read(b"F", SECRET, lengths, (1,) * 5,
                          *read_secret(SET_I, self.record(SECRET), *lengths))
 
     def read_signature(self, *lengths):
         number, values = read_signature(SET_I, self.record(SIGNATURE), *lengths)
-        return self.read(b"z", lengths, (4, 1), number,
+        return self.read(b"Y", SIGNATURE, lengths, (4, 1), number,
                          values and (pack_signed(values[0], 32), values[1]))
 
-    def read(self, letter, lengths, sizes, number, outputs):
+    def read(self, letter, record, lengths, sizes, number, outputs):
         """Outputs of so many values, each of so many bytes."""
         outputs = outputs or [UNTOUCHED * (length * size)
                               for length, size in zip(lengths, sizes)]
-        self.case(letter, b"".join(map(two_bytes, lengths)), bytes([number]),
-                  *map(hashed, outputs))
+        self.case(letter, [self.place(record)], number, *map(hashed, outputs), also=lengths)
         return number
-
-
-def place_bytes(places):
-    return b"".join(two_bytes(start) + two_bytes(length) for start, length in places)
 
 
 # What can be wrong with a call: the number that it alone gives, and how long it lasts, a context
@@ -214,9 +199,9 @@ def lent(record, length):
     return LENGTH, lambda machine, _: machine.lent(record, length)
 
 
-def spoilt(number, buffer, start, data):
-    """Other bytes stand in a buffer."""
-    return number, lambda machine, _: machine.written(buffer, start, data)
+def spoilt(number, start, data):
+    """Other bytes stand in the memory."""
+    return number, lambda machine, _: machine.written(start, data)
 
 
 def spoilt_field(number, record, width, index, value):
@@ -224,23 +209,23 @@ def spoilt_field(number, record, width, index, value):
     def wrong(machine, _):
         first, place = divmod(8 * MARK_BYTES + width * index, 8)
         length = bytes_for(place + width)
-        whole = int.from_bytes(machine.buffers[record][first:first + length], "little")
+        whole = int.from_bytes(machine.stretch((record + first, length)), "little")
         whole &= ~(((1 << width) - 1) << place)
         whole |= value % (1 << width) << place
-        return machine.written(record, first, whole.to_bytes(length, "little"))
+        return machine.written(record + first, whole.to_bytes(length, "little"))
     return number, wrong
 
 
 def flipped(number, record, at):
     """One bit of a record is the other."""
     return number, lambda machine, _: machine.written(
-        record, at, bytes([machine.buffers[record][at] ^ 1]))
+        record + at, bytes([machine.memory[record + at] ^ 1]))
 
 
 def other_marks(record):
     """Marks that differ in the first byte, in the second, and in both."""
-    first, second = SET_I.record_mark(record + 1)
-    return [spoilt(MARK, record, 0, bytes(mark))
+    first, second = SET_I.record_mark(RECORDS.index(record) + 1)
+    return [spoilt(MARK, record, bytes(mark))
             for mark in ([first ^ 2, second], [first, second ^ 0x80], [second, first])]
 
 
@@ -308,23 +293,23 @@ def fullest(rng, *largest):
 def write_secrets(machine, rng, polynomials):
     """s and e_1..e_k with fresh seeds into the memory."""
     row = [v for p in polynomials for v in p]
-    machine.write(MEMORY, S_AT, pack_signed(row, 8) + rng.randbytes(2 * SEED_BYTES))
+    machine.write(S_AT, pack_signed(row, 8) + rng.randbytes(2 * SEED_BYTES))
 
 
-def minus_128(buffer, start):
+def minus_128(start):
     """A byte of s and bytes of e that are -128: the first, the last, one in e_3."""
-    return [spoilt(VALUE, buffer, start + at, bytes([MINUS_128]))
+    return [spoilt(VALUE, start + at, bytes([MINUS_128]))
             for at in (0, N - 1, N, N + KN - 1, 3 * N + 500)]
 
 
-def too_large(machine, buffer, start):
+def too_large(machine, start):
     """The smallest secrets that do not pass: the largest coefficient of a fullest one is larger."""
     wrong = []
-    row = signed_bytes(machine.buffers[buffer][start:start + N + KN])
+    row = signed_bytes(machine.stretch((start, N + KN)))
     for i in range(1 + SET_I.k):
         at = max(range(i * N, i * N + N), key=lambda at: abs(row[at]))
         larger = row[at] + (1 if row[at] > 0 else -1)
-        wrong.append(spoilt(CHECK_E if i else CHECK_S, buffer, start + at,
+        wrong.append(spoilt(CHECK_E if i else CHECK_S, start + at,
                             pack_signed([larger], 8)))
     return wrong
 
@@ -334,7 +319,7 @@ def too_large(machine, buffer, start):
 def blank_cases(machine):
     """Before anything is written all bytes are A5, and what is refused leaves them so."""
     answered(machine, machine.make_key, KEY, CHECK_S)
-    answered(machine, machine.make_key, KEY, LENGTH, given(LENGTH, seed_y=(65000, 1000)))
+    answered(machine, machine.make_key, KEY, LENGTH, given(LENGTH, seed_y=(MEMORY - 536, 1000)))
     answered(machine, machine.sign, SIGNING, MARK)
     answered(machine, machine.check, CHECKING, MARK)
     answered(machine, machine.read_public, READ_PUBLIC, MARK)
@@ -344,7 +329,7 @@ def blank_cases(machine):
 
 def signed_and_checked(machine, rng, length):
     """A signature with a fresh r on so much of the message, and then with other budgets."""
-    machine.write(MEMORY, R_AT, rng.randbytes(SEED_BYTES))
+    machine.write(R_AT, rng.randbytes(SEED_BYTES))
     place = dict(message=(MESSAGE_AT, length))
     answered(machine, machine.sign, dict(SIGNING, **place), DONE)
     counter = machine.counter
@@ -361,14 +346,14 @@ def signed_at_once(machine, rng):
         r = rng.randbytes(SEED_BYTES)
         number = sign(SET_I, machine.record(SECRET), machine.stretch(SIGNING["message"]), r, 1,
                       SET_I.signature_length)[0]
-    machine.write(MEMORY, R_AT, r)
+    machine.write(R_AT, r)
     answered(machine, machine.sign, dict(SIGNING, budget=1), DONE)
     answered(machine, machine.check, CHECKING, DONE)
 
 
 def whole_cases(machine, rng):
     """Keys of ordinary secrets, with signatures on messages of several lengths."""
-    machine.write(MEMORY, MESSAGE_AT, rng.randbytes(MESSAGE_LIMIT + 1))
+    machine.write(MESSAGE_AT, rng.randbytes(MESSAGE_LIMIT + 1))
     for lengths in ((0, 1, MESSAGE_LIMIT), (2, 135, 1000)):
         write_secrets(machine, rng, [ordinary(rng) for _ in range(1 + SET_I.k)])
         answered(machine, machine.make_key, KEY, DONE)
@@ -389,8 +374,8 @@ def edge_cases(machine, rng):
         signed_and_checked(machine, rng, 40)
     refusals(machine, machine.make_key, KEY,
              other_lengths(KEY) + other_rooms(PUBLIC, SET_I.public_length)
-             + other_rooms(SECRET, SET_I.secret_length) + minus_128(MEMORY, S_AT)
-             + too_large(machine, MEMORY, S_AT))
+             + other_rooms(SECRET, SET_I.secret_length) + minus_128(S_AT)
+             + too_large(machine, S_AT))
 
 
 def signing_cases(machine):
@@ -399,7 +384,7 @@ def signing_cases(machine):
               + other_rooms(SIGNATURE, SET_I.signature_length) + other_marks(SECRET)
               + [given(MESSAGE, message=(MESSAGE_AT, MESSAGE_LIMIT + 1))]
               + [given(BUDGET, budget=budget) for budget in (0, 1025, 65536, 65537, 2**32 - 1)]
-              + minus_128(SECRET, MARK_BYTES) + too_large(machine, SECRET, MARK_BYTES))
+              + minus_128(SECRET + MARK_BYTES) + too_large(machine, SECRET + MARK_BYTES))
     refusals(machine, machine.sign, SIGNING, wrongs)
     answered(machine, machine.sign, SIGNING, DONE)
     short = dict(SIGNING, budget=machine.counter - 1)
@@ -436,7 +421,7 @@ def checking_cases(machine, rng):
 def with_another_g(machine, rng):
     """A secret record whose g is another signs, and the signature is refused."""
     at = SET_I.secret_length - DIGEST_BYTES
-    with machine.written(SECRET, at, rng.randbytes(DIGEST_BYTES)):
+    with machine.written(SECRET + at, rng.randbytes(DIGEST_BYTES)):
         answered(machine, machine.sign, SIGNING, DONE)
         answered(machine, machine.check, CHECKING, HASH)
     answered(machine, machine.sign, SIGNING, DONE)
@@ -451,10 +436,10 @@ def public_cases(machine, rng):
                 ((0, SET_I.q), (KN - 1, 2**29 - 1))])
     answered(machine, machine.read_public, READ_PUBLIC, DONE)
     t = [0, SET_I.q - 1, *(rng.randrange(SET_I.q) for _ in range(KN - 4)), SET_I.q - 1, 0]
-    machine.write(MEMORY, T_AT, pack(t, 32))
+    machine.write(T_AT, pack(t, 32))
     refusals(machine, machine.write_public, WRITE_PUBLIC,
              other_lengths(WRITE_PUBLIC) + other_rooms(PUBLIC, SET_I.public_length)
-             + [spoilt(VALUE, MEMORY, T_AT + 4 * index, pack([value], 32)) for index, value in
+             + [spoilt(VALUE, T_AT + 4 * index, pack([value], 32)) for index, value in
                 ((0, SET_I.q), (1023, 2**29), (KN - 1, 2**32 - 1))])
     answered(machine, machine.write_public, WRITE_PUBLIC, DONE)
     answered(machine, machine.read_public, READ_PUBLIC, DONE)
@@ -463,14 +448,14 @@ def public_cases(machine, rng):
 def secret_cases(machine, rng):
     refusals(machine, machine.read_secret, READ_SECRET,
              other_lengths(READ_SECRET) + other_rooms(SECRET, SET_I.secret_length)
-             + other_marks(SECRET) + minus_128(SECRET, MARK_BYTES))
+             + other_marks(SECRET) + minus_128(SECRET + MARK_BYTES))
     answered(machine, machine.read_secret, READ_SECRET, DONE)
     row = [127, -127, *(rng.randint(-127, 127) for _ in range(N + KN - 4)), -127, 127]
-    machine.write(MEMORY, S_AT,
+    machine.write(S_AT,
                   pack_signed(row, 8) + rng.randbytes(2 * SEED_BYTES + DIGEST_BYTES))
     refusals(machine, machine.write_secret, WRITE_SECRET,
              other_lengths(WRITE_SECRET) + other_rooms(SECRET, SET_I.secret_length)
-             + minus_128(MEMORY, S_AT))
+             + minus_128(S_AT))
     answered(machine, machine.write_secret, WRITE_SECRET, DONE)
     answered(machine, machine.read_secret, READ_SECRET, DONE)
 
@@ -484,17 +469,17 @@ def signature_cases(machine, rng):
                 ((0, bound + 1), (N - 1, -bound - 1), (1, -2**19))])
     answered(machine, machine.read_signature, READ_SIGNATURE, DONE)
     z = [bound, -bound, *(rng.randint(-bound, bound) for _ in range(N - 4)), -bound, bound]
-    machine.write(MEMORY, Z_AT, pack_signed(z, 32))
-    machine.write(MEMORY, C_AT, rng.randbytes(SEED_BYTES))
+    machine.write(Z_AT, pack_signed(z, 32))
+    machine.write(C_AT, rng.randbytes(SEED_BYTES))
     refusals(machine, machine.write_signature, WRITE_SIGNATURE,
              other_lengths(WRITE_SIGNATURE) + other_rooms(SIGNATURE, SET_I.signature_length)
-             + [spoilt(Z, MEMORY, Z_AT + 4 * index, pack_signed([value], 32)) for index, value in
+             + [spoilt(Z, Z_AT + 4 * index, pack_signed([value], 32)) for index, value in
                 ((0, bound + 1), (N - 1, -bound - 1), (500, 2**31 - 1), (501, -2**31))])
     answered(machine, machine.write_signature, WRITE_SIGNATURE, DONE)
     answered(machine, machine.read_signature, READ_SIGNATURE, DONE)
 
 
-def scheme_vectors():
+def scheme_cases():
     rng, machine = random.Random("scheme_vectors"), Machine()
     blank_cases(machine)
     whole_cases(machine, rng)
@@ -504,6 +489,4 @@ def scheme_vectors():
     public_cases(machine, rng)
     secret_cases(machine, rng)
     signature_cases(machine, rng)
-    stdin = b"".join(case for case, _ in machine.cases)
-    stdout = b"".join(output.hex().encode() + b"\n" for _, output in machine.cases)
-    return stdin, stdout
+    return machine.cases

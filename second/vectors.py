@@ -1,18 +1,17 @@
-"""The vectors of the vector programs: for each its standard input and what it must write.
+"""The vectors of the vector program: its standard input and what it must write.
 
-A program's cases are made from a fixed seed, and its lines by this program alone. PROGRAMS names
-the programs, each with a function that answers its two files.
+The cases are made from fixed seeds, and the lines by this program alone. A case is a letter and a
+piece, whose length of two bytes stands before it, and for each case a line is written in
+hexadecimal. A number in a piece has four bytes. Every number has its low byte first.
 
-shake_vectors: a case is a row of steps, and each step a letter with what it needs:
+Here are the cases of the sponge, which stays between them:
 
-    A length, bytes   absorbs the bytes at once      a   absorbs them one at a time
-    S length          squeezes as many at once       s   squeezes them one at a time
-    B                 squeezes 136 bytes             .   ends the case, with a line of hexadecimal
+    <   absorbs the bytes at once      (   absorbs them one at a time
+    >   squeezes as many at once       )   squeezes them one at a time
+    =   squeezes 136 bytes             .   begins anew with a blank sponge
 
-A length has two bytes, low first.
-
-sampling_vectors and scheme_vectors have their cases in files of their own, and so have the inputs of
-the roster program, in roster_inputs.py.
+The others are in sampling_vectors.py and scheme_vectors.py, and the inputs of the roster program in
+roster_inputs.py.
 """
 
 import hashlib
@@ -20,11 +19,11 @@ import os
 import random
 
 import roster_inputs
-from sampling_vectors import sampling_vectors
-from scheme_vectors import scheme_vectors
+from cases import case, number
+from sampling_vectors import sampling_cases
+from scheme_vectors import scheme_cases
 
 BLOCK = 136
-LONGEST = 4096   # of a squeeze
 
 # FIPS 202's examples for SHAKE256: the message, and how its published output of 512 bytes begins.
 # Written here are the first 64 bytes of each; all 512 are asked of both programs.
@@ -42,21 +41,20 @@ EDGES = [0, 1, BLOCK - 1, BLOCK, BLOCK + 1, 2 * BLOCK - 1, 2 * BLOCK, 2 * BLOCK 
 RANDOM_CASES = 40
 
 
-class Case:
-    """One case: its steps as bytes, and the bytes that are squeezed on the way.
+class Row:
+    """Steps of the sponge, from a blank one on: each a case.
 
     The sponge is the message absorbed since it was blank, and the number of
     bytes squeezed of it, or None while absorbing has not ended.
     """
 
     def __init__(self):
-        self.steps = b""
-        self.output = b""
+        self.steps = [case(b".", b"")]
         self.message = b""
         self.taken = None
 
     def absorb(self, data, each=False):
-        self.steps += (b"a" if each else b"A") + length_bytes(len(data)) + data
+        self.steps.append(case(b"(" if each else b"<", data))
         if each and not data:
             return self   # nothing is done
         if self.taken is not None:
@@ -65,22 +63,18 @@ class Case:
         return self
 
     def squeeze(self, length, each=False):
-        self.steps += (b"s" if each else b"S") + length_bytes(length)
-        return self if each and not length else self.take(length)
+        output = b"" if each and not length else self.take(length)
+        self.steps.append(case(b")" if each else b">", number(length), output))
+        return self
 
     def squeeze_block(self):
-        self.steps += b"B"
-        return self.take(BLOCK)
+        self.steps.append(case(b"=", b"", self.take(BLOCK)))
+        return self
 
     def take(self, length):
         start = self.taken or 0
         self.taken = start + length   # also after a squeeze of nothing, which ends absorbing
-        self.output += hashlib.shake_256(self.message).digest(self.taken)[start:]
-        return self
-
-
-def length_bytes(length):
-    return length.to_bytes(2, "little")
+        return hashlib.shake_256(self.message).digest(self.taken)[start:]
 
 
 def published_cases():
@@ -88,8 +82,8 @@ def published_cases():
         output = hashlib.shake_256(message).digest(PUBLISHED_LENGTH)
         if not output.hex().startswith(begins):
             raise ValueError("SHAKE256 here is not that of FIPS 202")
-        yield Case().absorb(message).squeeze(PUBLISHED_LENGTH)
-        yield Case().absorb(message, each=True).squeeze(PUBLISHED_LENGTH, each=True)
+        yield Row().absorb(message).squeeze(PUBLISHED_LENGTH)
+        yield Row().absorb(message, each=True).squeeze(PUBLISHED_LENGTH, each=True)
 
 
 def edge_cases(rng):
@@ -97,40 +91,40 @@ def edge_cases(rng):
     for message_length in EDGES:
         message = rng.randbytes(message_length)
         for length in EDGES:
-            yield Case().absorb(message).squeeze(length)
-        yield Case().absorb(message, each=True).squeeze_block().squeeze_block()
-    yield Case().squeeze(BLOCK)
-    yield Case().squeeze_block()
-    yield Case().squeeze(32, each=True)
+            yield Row().absorb(message).squeeze(length)
+        yield Row().absorb(message, each=True).squeeze_block().squeeze_block()
+    yield Row().squeeze(BLOCK)
+    yield Row().squeeze_block()
+    yield Row().squeeze(32, each=True)
 
 
 def order_cases(rng):
     """What an absorb after a squeeze does, and a squeeze or an absorb of nothing."""
     for each in (False, True):
-        yield Case().absorb(b"ab").squeeze(5, each).absorb(b"c", each).squeeze(8)
-        yield Case().absorb(b"ab").squeeze_block().absorb(b"c", each).squeeze_block()
-        yield Case().absorb(b"ab").squeeze(0, each).absorb(b"c", each).squeeze(8)
-        yield Case().absorb(b"ab").squeeze(0, each).squeeze(8, each)
-        yield Case().absorb(b"ab").squeeze(5).absorb(b"", each).squeeze(8)
-        yield Case().absorb(b"ab").absorb(b"", each).absorb(b"c", each).squeeze(8)
-        yield Case().absorb(b"ab", each).squeeze(BLOCK).absorb(b"", each).absorb(b"c").squeeze(8)
+        yield Row().absorb(b"ab").squeeze(5, each).absorb(b"c", each).squeeze(8)
+        yield Row().absorb(b"ab").squeeze_block().absorb(b"c", each).squeeze_block()
+        yield Row().absorb(b"ab").squeeze(0, each).absorb(b"c", each).squeeze(8)
+        yield Row().absorb(b"ab").squeeze(0, each).squeeze(8, each)
+        yield Row().absorb(b"ab").squeeze(5).absorb(b"", each).squeeze(8)
+        yield Row().absorb(b"ab").absorb(b"", each).absorb(b"c", each).squeeze(8)
+        yield Row().absorb(b"ab", each).squeeze(BLOCK).absorb(b"", each).absorb(b"c").squeeze(8)
     message = rng.randbytes(3 * BLOCK)
     for place in (1, BLOCK - 1, BLOCK):
-        yield Case().absorb(message).squeeze(place).absorb(message).squeeze(32)
-        yield Case().absorb(message).squeeze(place).squeeze_block().squeeze(place)
+        yield Row().absorb(message).squeeze(place).absorb(message).squeeze(32)
+        yield Row().absorb(message).squeeze(place).squeeze_block().squeeze(place)
 
 
 def random_cases(rng):
     """Messages in pieces of uneven size, with pieces of nothing, and outputs likewise."""
     for _ in range(RANDOM_CASES):
-        case = Case()
+        row = Row()
         for size in uneven(rng, rng.choice([40, 400, 4000])):
-            case.absorb(rng.randbytes(size), each=rng.random() < 0.3)
+            row.absorb(rng.randbytes(size), each=rng.random() < 0.3)
         for size in uneven(rng, rng.choice([40, 400, 2000])):
             if rng.random() < 0.2:
-                case.squeeze_block()
-            case.squeeze(size, each=rng.random() < 0.3)
-        yield case
+                row.squeeze_block()
+            row.squeeze(size, each=rng.random() < 0.3)
+        yield row
 
 
 def uneven(rng, most):
@@ -142,24 +136,18 @@ def uneven(rng, most):
     return sizes
 
 
-def shake_vectors():
+def sponge_cases():
     rng = random.Random("shake_vectors")
-    cases = [*published_cases(), *edge_cases(rng), *order_cases(rng), *random_cases(rng)]
-    stdin = b"".join(case.steps + b"." for case in cases)
-    stdout = b"".join(case.output.hex().encode() + b"\n" for case in cases)
-    return stdin, stdout
-
-
-PROGRAMS = {"shake_vectors": shake_vectors, "sampling_vectors": sampling_vectors,
-            "scheme_vectors": scheme_vectors}
+    rows = [*published_cases(), *edge_cases(rng), *order_cases(rng), *random_cases(rng)]
+    return [step for row in rows for step in row.steps]
 
 
 def files():
     """Each file's path below crates/, and its bytes."""
-    for name, make in PROGRAMS.items():
-        stdin, stdout = make()
-        yield os.path.join(name, "stdin"), stdin
-        yield os.path.join(name, "stdout"), stdout
+    cases = [*sponge_cases(), *sampling_cases(), *scheme_cases()]
+    yield os.path.join("vectors", "stdin"), b"".join(given for given, _ in cases)
+    yield os.path.join("vectors", "stdout"), b"".join(line.hex().encode() + b"\n"
+                                                      for _, line in cases)
     yield from roster_inputs.files()
 
 
