@@ -8,8 +8,6 @@ use lib.ListN.{length, replicate}
 use Rattle.whole.specs.Int.{lt-or-le}
 use Rattle.ring.specs.Largest.{push, places, added, largest, Choice, done, skip, take}
 
--- ---- what the code asks of the places
-
 -- ---- it is what its name says
 
 -- what a push lets fall off: the smallest of x and the places
