@@ -6,7 +6,7 @@ crates, so that the two can be compared. From the repository's root:
     python3 second selfcheck    runs its own assertions; the last line counts them
     python3 second roster       the roster program: standard input to one line
     python3 second inputs PROGRAM   runs the proved roster program on its kept inputs and compares its lines
-    python3 second vectors [DIR]    writes the vector programs' stdin and stdout below crates/, or DIR
+    python3 second vectors [DIR]    writes the vector program's stdin and stdout below crates/, or DIR
     python3 second vectors --check  compares those files with what it would write
     python3 second compare [--cases N] [--seed S]
                                 compares every entry of target/face/libmaesikkong.so with its own
@@ -14,7 +14,7 @@ crates, so that the two can be compared. From the repository's root:
 sets.py has the numbers of a set, answers.py the numbers that come back,
 sums.py the arithmetic, streams.py SHAKE256 and what is drawn from it,
 records.py, scheme.py and envelope.py the entries, program.py the line,
-vectors.py the vector programs' files, with sampling_vectors.py,
+vectors.py the vector program's files, with sampling_vectors.py,
 scheme_vectors.py and roster_inputs.py. checks/ holds the assertions, compare/
 the comparison in bulk with the library that scripts/face builds.
 """

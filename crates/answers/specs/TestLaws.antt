@@ -5,7 +5,7 @@
 --     after-done, after-refused, after-other      an output after the answer 0, and after any other
 --     before, beyond                what a function answers that makes the tests of another first
 --     tests                         the laws by which `search` proves what a function answers that makes its tests one after another
---     outputs                       and what it leaves in its outputs
+--     all-pass, passes-all          every test passes, and the answer is 0
 -- Assumes nothing.
 use mathlib.Core.Path.{_≡_, refl, sym, _∙_}
 use mathlib.Core.Bool.{Bool, true, false, not, cond}

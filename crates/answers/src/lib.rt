@@ -1,5 +1,5 @@
 // What comes back: document 01's numbers, one case for each, whichever entry answers it. Which of them an entry can give is said by its
-// list of tests.
+// list of tests; signing's 8 and 10 come from its search.
 ghost use mathlib.Core.Path.{_≡_};
 ghost use lib.Dec.{eqb};
 ghost use Rattle.answers.specs.Answers.{numberOf};
@@ -7,7 +7,7 @@ ghost use Rattle.answers.specs.Answers.{numberOf};
 pub enum Answer {
     // 0: done or accepted
     Done,
-    // 1: a lent or output length is not the one named
+    // 1: a length is not the one named, or a stream has too few candidates
     Length,
     // 2: a mark is wrong
     Mark,

@@ -1,5 +1,5 @@
--- What the steps of an attempt compute, over what the code holds: e_1..e_k and v_1..v_k each stand in one list, y comes as residues by q,
--- and c is a polynomial.
+-- What the steps of an attempt compute, over what the code holds: e_1..e_k and v_1..v_k each stand in one list, and c is a
+-- polynomial, or its positions with their signs.
 -- Assumes nothing: these are definitions.
 use mathlib.Core.Bool.{Bool, _&&_}
 use mathlib.Core.List.{List}

@@ -1,5 +1,5 @@
 -- What a set's numbers have to satisfy: all that the code and the theorems ask of them. Each comment says what it is for.
--- A set is added by proving them of its numbers. Theorems on 10, and on when signing answers 8, ask more: the bound on the high part,
+-- A set is added by proving them of its numbers, by a case of `Known`, and by an arm where scratch is made. Theorems on 10, and on when signing answers 8, ask more: the bound on the high part,
 -- which is computed from q and d.
 -- Assumes nothing: these are definitions.
 use mathlib.Core.Path.{_≡_}
