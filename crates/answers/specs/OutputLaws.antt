@@ -10,7 +10,7 @@ use mathlib.Core.List.{List}
 use Prim.Native.Nat.{ℕ, suc}
 use lib.Dec.{eqb}
 use borrow.Author.Tests.{eqb-true, eqb-false}
-use Rattle.answers.specs.Tests.{Test, answer, Answered, Output}
+use Rattle.answers.specs.Tests.{Test, Answered, Output}
 use Rattle.answers.specs.TestLaws.{after-done, after-refused, after-other}
 
 pub same-number : {ts : List Test} {m n : ℕ} → Answered ts m → Answered ts n → m ≡ n

@@ -10,13 +10,13 @@
 use mathlib.Core.Path.{_≡_, refl, sym, _∙_}
 use mathlib.Core.Bool.{Bool, true, false, not, cond}
 use mathlib.Core.List.{List, [], _∷_, _++_}
-use Prim.Native.Nat.{ℕ, zero, suc, _≤_, _<_, zero-le}
+use Prim.Native.Nat.{ℕ, zero, suc, _≤_, zero-le}
 use native.Mathlib.Omega.{arith}
 use lib.Dec.{eqb, leb, ltb}
 use borrow.Author.Tests.{eqb-true, eqb-false, eq-eqb, ne-eqb, le-leb, lt-leb, leb-true, ltb-true, not-true, not-false}
 use Rattle.whole.specs.Every.{every}
 use Rattle.whole.specs.EveryLaws.{both-first, both-second}
-use Rattle.answers.specs.Tests.{Test, _orElse_, answer, after, Answered, Output}
+use Rattle.answers.specs.Tests.{Test, _orElse_, answer, after, Answered}
 
 -- ---- the answer
 

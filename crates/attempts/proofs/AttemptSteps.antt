@@ -1,30 +1,19 @@
 -- What follows once c' is known, and the attempt's outcome. Assumes nothing.
 use mathlib.Core.Path.{_≡_, refl, sym, ap, _∙_}
 use mathlib.Core.Bool.{Bool, true, false, cond, _&&_}
-use mathlib.Core.List.{List, map}
-use Prim.Native.Nat.{ℕ, _+_, _*_, _-_, _^_, _<_}
+use mathlib.Core.List.{List}
+use Prim.Native.Nat.{ℕ, _+_, _*_, _-_}
 use native.Mathlib.Omega.{arith}
 use lib.IntN.{ℤ}
-use lib.ListN.{length, getD, take, drop, length-map}
-use Rattle.whole.specs.Table.{joined}
-use Rattle.whole.specs.Below.{Below}
-use Rattle.whole.specs.BelowLaws.{below-part}
-use Rattle.whole.specs.Every.{every, eachBelow}
+use lib.ListN.{length, take, drop, length-map}
+use Rattle.whole.specs.Every.{eachBelow}
 use Rattle.whole.specs.EveryLaws.{not-first, both-first, eachBelow-ext}
-use Rattle.whole.specs.Twos.{twos}
-use Rattle.whole.specs.TwosLaws.{twos-all-below}
-use Rattle.rounding.specs.Tests.{fitsByte}
 use Rattle.ring.specs.Sparse.{sparse}
-use Rattle.shake.specs.declared.Sponge.{Sponge}
-use Rattle.shake.specs.Sponge.{absorbed, squeezed}
-use Rattle.shake.specs.Pieces.{length-squeezed}
 use Rattle.sets.specs.declared.Numbers.{Numbers}
-use Rattle.sets.specs.Marks.{fresh}
 use Rattle.sets.specs.SetI.{setI}
 use Rattle.sampling.specs.Positions.{Drawn, polynomialOf, AreDrawn}
-use Rattle.sampling.specs.Streams.{allA, aOf, yOf, encOf, challenge, highsOf}
+use Rattle.sampling.specs.Streams.{aOf, yOf, encOf, challenge, highsOf}
 use Rattle.sampling.specs.StreamsLaws.{allA-length, allA-below, encOf-length, encOf-signed, yOf-length}
-use Rattle.sampling.specs.SpongeLaws.{challenge-squeezed}
 use Rattle.sampling.specs.Asks.{DrawEnc}
 use Rattle.records.specs.Layout.{polynomial, secretBytes}
 use Rattle.sets.specs.Limits.{seedBytes, digestBytes}

@@ -1,10 +1,9 @@
 -- a_1..a_k are drawn one after another into a row. Assumes nothing.
-use mathlib.Core.Path.{_≡_, ap, _∙_}
+use mathlib.Core.Path.{_≡_, _∙_}
 use mathlib.Core.List.{List, _++_}
 use Prim.Native.Nat.{ℕ, _+_, _*_, _-_, _≤_, _<_}
 use native.Mathlib.Omega.{arith}
 use lib.ListN.{length, take, drop}
-use Rattle.whole.specs.Table.{joined}
 use Rattle.whole.specs.TableLaws.{joined-parts}
 use Rattle.sets.specs.declared.Numbers.{Numbers}
 use Rattle.sampling.specs.declared.drawn.DrawA.{DrawA}

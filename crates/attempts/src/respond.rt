@@ -74,6 +74,7 @@ fn make_z(set: Numbers, s: &[u8], y: &[i32], positions: &[u16], signs: &[i8], z:
 }
 
 // What follows once c' is known: z = y + s c, left in z, and whether z and then every w_i = v_i − e_i c pass their tests, with c = Enc(c').
+// y takes each e_i c, and the place of v_i takes w_i.
 fn respond_in(
     set: Numbers,
     s: &[u8],

@@ -41,7 +41,7 @@ signatureOf s envelope = stretch (headBytes + lengthOf envelope) (signatureBytes
 
 -- ---- the tests
 
--- opening's first four, in its own order: fewer than 6 bytes, the mark, L, the total
+-- the first four of reading and opening, in opening's own order: fewer than 6 bytes, the mark, L, the total
 unfoldable pub headTests : Numbers → List ℕ → List Test
 headTests s envelope =
     (leb headBytes (length envelope) orElse 1)

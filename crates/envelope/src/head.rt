@@ -1,4 +1,4 @@
-// The head of an envelope: the mark, the team number, the roster's length L; and opening's first four tests.
+// The head of an envelope: the mark, the team number, the roster's length L; and the first four tests of reading and opening.
 use answers::Answer;
 use records::pieces;
 use sets::Numbers;
@@ -63,7 +63,7 @@ fn test_length(set: Numbers, len: usize, total: usize) -> Answer
     Answer::Done
 }
 
-// Opening's first four tests, in its own order: fewer than 6 bytes (1), the mark (2), L (3), the total (1).
+// The first four tests of reading and opening, in opening's own order: fewer than 6 bytes (1), the mark (2), L (3), the total (1).
 pub(crate) fn test_head(set: Numbers, envelope: &[u8]) -> Answer
     requires { ⌜ Good set ⌝ }
     ensures { λ r. ⌜ Answered (headTests set (now (envelope .entry))) (numberOf r) ⌝ }

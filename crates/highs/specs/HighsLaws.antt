@@ -2,7 +2,7 @@
 --     held-more       what is held after one polynomial more
 --     hashes-long     c' has 32 bytes
 -- Assumes nothing.
-use mathlib.Core.Path.{_≡_, sym, ap, ap₂, _∙_}
+use mathlib.Core.Path.{_≡_, sym, ap, _∙_}
 use mathlib.Core.Bool.{_&&_}
 use mathlib.Core.List.{List, _++_, map, map-append}
 use Prim.Native.Nat.{ℕ}

@@ -10,7 +10,7 @@ pub const SEED_BYTES: usize = 32;
 
 pub const DIGEST_BYTES: usize = 40;
 
-// The longest message, in bytes.
+// The longest message and the longest roster, in bytes.
 pub const MESSAGE_LIMIT: usize = 32768;
 
 // The largest budget of counters.

@@ -5,7 +5,6 @@ use denote.Ref.{now}
 use Rattle.whole.specs.Determined.{Result, Output}
 use Rattle.answers.specs.declared.Answer.{Answer}
 use Rattle.answers.specs.Answers.{number-one}
-use Rattle.signing.specs.declared.Signed.{Signed}
 use Rattle.signing.proofs.sign.Kinds as sign-kinds
 use Rattle.signing.proofs.sign.Reads as sign
 

@@ -20,7 +20,7 @@ use Rattle.records.specs.SecretLaws.{s-lent, e-lent, e-lent-long}
 use Rattle.keys.specs.Asks.{LongE}
 use Rattle.keys.specs.Key.{secretsTests}
 use Rattle.attempts.specs.Attempt.{keyOf, attempt}
-use Rattle.signing.specs.Search.{Found, search}
+use Rattle.signing.specs.Search.{search}
 use Rattle.signing.specs.Sign.{beginTests, signTests, signSearch}
 use Rattle.signing.specs.Promises.{Hashed, Gives, Signs}
 use Rattle.signing.specs.Asks.{SearchesKey}

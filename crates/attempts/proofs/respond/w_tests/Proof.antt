@@ -2,7 +2,6 @@
 -- measure is the number of those left. Assumes nothing.
 use borrow.Author.Needs.{needs}
 use borrow.Author.Tests.{not-true, not-false}
-use mathlib.Core.Path.{sym, _∙_}
 use Prim.Native.Nat.{_-_}
 use native.Mathlib.Omega.{arith}
 use Rattle.sets.specs.GoodLaws.{start-word, end-word, offset-word, row-ends}

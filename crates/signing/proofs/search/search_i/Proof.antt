@@ -1,5 +1,4 @@
 -- `signing::search::search_i` meets its contract: it is `search` with set I's a_1..a_k. Assumes nothing.
-use mathlib.Core.Path.{refl}
 use Rattle.sets.specs.Known.{known-i}
 use Rattle.signing.proofs.SearchSteps.{search-draws, search-asks}
 use borrow.Author.Needs.{needs}
