@@ -37,7 +37,7 @@ MEMORY = 65536 + 3 * ROOM
 N, KN = SET_I.n, SET_I.k * SET_I.n
 
 # Where each value starts in the memory. PUBLIC, SECRET and SIGNATURE are where the records do.
-MESSAGE_AT = 0
+MESSAGE_AT = 64          # before it is room for the piece
 R_AT = 33000
 S_AT = 34000
 E_AT = S_AT + N
