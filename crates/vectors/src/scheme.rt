@@ -1,8 +1,8 @@
-// Key making, signing, checking and the entries of the three records. A memory of 114,688 bytes, all A5 at first, stays between the cases. Its
+// Key making, signing, checking and the entries of the three records. The memory stays between the cases, with all bytes A5 at first. Its
 // first bytes are the last piece but that of a W. A place is the start and the length of a stretch of the memory:
 //     W  start, bytes                           nothing: the bytes go into the memory, from start on
-//     K  places of public, secret, s, e_1..e_k, seed_a, seed_y
-//                                               of key making the number, and the hashes of the two records
+//     K  places of secret, public, s, e_1..e_k, seed_a, seed_y
+//                                               of key making the number, and the hashes of public and secret
 //     S  places of signature, secret, message, r; budget
 //                                               of signing the number, the counter in 2 bytes, and the hash of the record
 //     C  places of public, message, signature   of checking the number
@@ -19,19 +19,11 @@
 // every byte of it is A5 before the call.
 use crate::bytes;
 use signing::Signed;
-ghost use mathlib.Core.Path.{_≡_};
 ghost use Prim.Native.Nat.{_<_};
-ghost use lib.ListN.{length};
 use shake::Sponge;
 
 // The bytes of a record's room.
 const ROOM: usize = 16384;
-
-pub fn memory() -> [u8; 114688]
-    ensures { λ r. ⌜ 114688 ≡ length r ⌝ }
-{
-    [0xA5; 114688]
-}
 
 // The stretch whose place stands from number i on.
 fn stretch(memory: &[u8], i: usize) -> &[u8]
@@ -53,29 +45,21 @@ fn store(room: &[u8], memory: &mut [u8], i: usize) {
 
 // ---- the algorithms
 
-fn make_into(memory: &[u8], public: &mut [u8], secret: &mut [u8]) {
-    let p = bytes::fit(memory, 1, public);
-    let s = bytes::fit(memory, 3, secret);
+fn make_key(memory: &mut [u8], secret: &mut [u8]) {
+    let mut room = bytes::room();
+    let public: &mut [u8] = &mut room;
+    load(memory, 2, public);
+    let n = bytes::fit(memory, 3, public);
     bytes::print_answer(keys::make_key(
         stretch(memory, 4),
         stretch(memory, 6),
         stretch(memory, 8),
         stretch(memory, 10),
-        &mut public[..p],
-        &mut secret[..s],
+        &mut public[..n],
+        secret,
     ));
     bytes::hash(public, ROOM);
-    bytes::hash(secret, ROOM);
-}
-
-fn make_key(memory: &mut [u8]) {
-    let mut public = bytes::room();
-    let mut secret = bytes::room();
-    load(memory, 0, &mut public);
-    load(memory, 2, &mut secret);
-    make_into(memory, &mut public, &mut secret);
-    store(&public, memory, 0);
-    store(&secret, memory, 2);
+    store(public, memory, 2);
 }
 
 fn print_signed(signed: Signed) {
@@ -144,8 +128,9 @@ fn write_signature(memory: &[u8], signature: &mut [u8]) {
 }
 
 // One record into what is lent of its room.
-fn write_lent(letter: u8, memory: &[u8], lent: &mut [u8]) {
+fn write_lent(letter: u8, memory: &mut [u8], lent: &mut [u8]) {
     match letter {
+        b'K' => make_key(memory, lent),
         b'S' => sign(memory, lent),
         b'P' => write_public(memory, lent),
         b'E' => write_secret(memory, lent),
@@ -153,23 +138,24 @@ fn write_lent(letter: u8, memory: &[u8], lent: &mut [u8]) {
     }
 }
 
-fn write_into(letter: u8, memory: &[u8], room: &mut [u8]) {
+fn write_record(letter: u8, memory: &mut [u8]) {
+    let mut place = bytes::room();
+    let room: &mut [u8] = &mut place;
+    load(memory, 0, room);
     let n = bytes::fit(memory, 1, room);
     write_lent(letter, memory, &mut room[..n]);
     bytes::hash(room, ROOM);
-}
-
-fn write_record(letter: u8, memory: &mut [u8]) {
-    let mut room = bytes::room();
-    load(memory, 0, &mut room);
-    write_into(letter, memory, &mut room);
-    store(&room, memory, 0);
+    store(room, memory, 0);
 }
 
 // ---- the records read
 
-fn read_public_into(memory: &[u8], t: &mut [u32], seed_a: &mut [u8]) {
+fn read_public(memory: &[u8]) {
+    let mut place = bytes::room_of_words();
+    let t: &mut [u32] = &mut place;
     let n = bytes::fit_words(memory, 2, t);
+    let mut room = bytes::room();
+    let seed_a: &mut [u8] = &mut room;
     let m = bytes::fit(memory, 3, seed_a);
     bytes::print_answer(records::read_public(
         stretch(memory, 0),
@@ -180,51 +166,12 @@ fn read_public_into(memory: &[u8], t: &mut [u32], seed_a: &mut [u8]) {
     bytes::hash(seed_a, m);
 }
 
-fn read_public(memory: &[u8]) {
-    let mut t = bytes::room_of_words();
-    let mut seed_a = bytes::room();
-    read_public_into(memory, &mut t, &mut seed_a);
-}
-
-fn read_secret_into(
-    memory: &[u8],
-    s: &mut [u8],
-    e: &mut [u8],
-    seed_a: &mut [u8],
-    seed_y: &mut [u8],
-    g: &mut [u8],
-) {
-    let n = bytes::fit(memory, 2, s);
-    let kn = bytes::fit(memory, 3, e);
-    let long_a = bytes::fit(memory, 4, seed_a);
-    let long_y = bytes::fit(memory, 5, seed_y);
-    let long_g = bytes::fit(memory, 6, g);
-    bytes::print_answer(records::read_secret(
-        stretch(memory, 0),
-        &mut s[..n],
-        &mut e[..kn],
-        &mut seed_a[..long_a],
-        &mut seed_y[..long_y],
-        &mut g[..long_g],
-    ));
-    bytes::hash(s, n);
-    bytes::hash(e, kn);
-    bytes::hash(seed_a, long_a);
-    bytes::hash(seed_y, long_y);
-    bytes::hash(g, long_g);
-}
-
-fn read_secret(memory: &[u8]) {
-    let mut s = bytes::room();
-    let mut e = bytes::room();
-    let mut seed_a = bytes::room();
-    let mut seed_y = bytes::room();
-    let mut g = bytes::room();
-    read_secret_into(memory, &mut s, &mut e, &mut seed_a, &mut seed_y, &mut g);
-}
-
-fn read_signature_into(memory: &[u8], z: &mut [i32], c: &mut [u8]) {
+fn read_signature(memory: &[u8]) {
+    let mut place = bytes::room_of_signed();
+    let z: &mut [i32] = &mut place;
     let n = bytes::fit_signed(memory, 2, z);
+    let mut room = bytes::room();
+    let c: &mut [u8] = &mut room;
     let m = bytes::fit(memory, 3, c);
     bytes::print_answer(signatures::read_signature(
         stretch(memory, 0),
@@ -235,10 +182,52 @@ fn read_signature_into(memory: &[u8], z: &mut [i32], c: &mut [u8]) {
     bytes::hash(c, m);
 }
 
-fn read_signature(memory: &[u8]) {
-    let mut z = bytes::room_of_signed();
-    let mut c = bytes::room();
-    read_signature_into(memory, &mut z, &mut c);
+// The secret record's outputs, one after another, so that no function makes them all.
+fn read_s(memory: &[u8], e: &mut [u8], seed_a: &mut [u8], seed_y: &mut [u8], g: &mut [u8]) {
+    let mut room = bytes::room();
+    let s: &mut [u8] = &mut room;
+    let n = bytes::fit(memory, 2, s);
+    bytes::print_answer(records::read_secret(
+        stretch(memory, 0),
+        &mut s[..n],
+        e,
+        seed_a,
+        seed_y,
+        g,
+    ));
+    bytes::hash(s, n);
+}
+
+fn read_e(memory: &[u8], seed_a: &mut [u8], seed_y: &mut [u8], g: &mut [u8]) {
+    let mut room = bytes::room();
+    let e: &mut [u8] = &mut room;
+    let n = bytes::fit(memory, 3, e);
+    read_s(memory, &mut e[..n], seed_a, seed_y, g);
+    bytes::hash(e, n);
+}
+
+fn read_seed_a(memory: &[u8], seed_y: &mut [u8], g: &mut [u8]) {
+    let mut room = bytes::room();
+    let seed_a: &mut [u8] = &mut room;
+    let n = bytes::fit(memory, 4, seed_a);
+    read_e(memory, &mut seed_a[..n], seed_y, g);
+    bytes::hash(seed_a, n);
+}
+
+fn read_seed_y(memory: &[u8], g: &mut [u8]) {
+    let mut room = bytes::room();
+    let seed_y: &mut [u8] = &mut room;
+    let n = bytes::fit(memory, 5, seed_y);
+    read_seed_a(memory, &mut seed_y[..n], g);
+    bytes::hash(seed_y, n);
+}
+
+fn read_g(memory: &[u8]) {
+    let mut room = bytes::room();
+    let g: &mut [u8] = &mut room;
+    let n = bytes::fit(memory, 6, g);
+    read_seed_y(memory, &mut g[..n]);
+    bytes::hash(g, n);
 }
 
 pub fn run(letter: u8, given: &[u8], memory: &mut [u8]) {
@@ -248,10 +237,9 @@ pub fn run(letter: u8, given: &[u8], memory: &mut [u8]) {
     }
     bytes::copy(given, memory, 0);
     match letter {
-        b'K' => make_key(memory),
         b'C' => check(memory),
         b'Q' => read_public(memory),
-        b'F' => read_secret(memory),
+        b'F' => read_g(memory),
         b'Y' => read_signature(memory),
         _ => write_record(letter, memory),
     }
