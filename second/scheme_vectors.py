@@ -4,7 +4,7 @@ The program keeps a memory between these cases. A place is the start and the len
 it. The three records have their places, and what the calls are given has others:
 
     W start, bytes                                            writes into the memory
-    K places of public, secret, s, e, seed_a, seed_y          makes a key
+    K places of secret, public, s, e, seed_a, seed_y          makes a key
     S places of signature, secret, message, r; budget         signs
     C places of public, message, signature                    checks
     P places of public, t, seed_a                 Q lengths   writes, reads the public record
@@ -33,11 +33,11 @@ from sums import check_e, check_s, sum_of_largest
 
 ROOM = 16384             # of each record
 PUBLIC, SECRET, SIGNATURE = RECORDS = (65536, 65536 + ROOM, 65536 + 2 * ROOM)
-MEMORY = 65536 + 3 * ROOM
+MEMORY = 524288
 N, KN = SET_I.n, SET_I.k * SET_I.n
 
 # Where each value starts in the memory. PUBLIC, SECRET and SIGNATURE are where the records do.
-MESSAGE_AT = 0
+MESSAGE_AT = 64          # before it is room for the piece
 R_AT = 33000
 S_AT = 34000
 E_AT = S_AT + N
@@ -124,7 +124,7 @@ class Machine:
         number, made = make_key(SET_I, *map(self.stretch, places), self.room(PUBLIC),
                                 self.room(SECRET))
         public, secret = made or (None, None)
-        self.case(b"K", [self.place(PUBLIC), self.place(SECRET), *places], number,
+        self.case(b"K", [self.place(SECRET), self.place(PUBLIC), *places], number,
                   self.after(PUBLIC, number, public), self.after(SECRET, number, secret))
         return number
 

@@ -1,7 +1,9 @@
 // Numbers and parts of bytes, and bytes, values and answers written in hexadecimal. What does not stand there is taken for 0, or left out.
 use answers::Answer;
 use shake::Sponge;
+ghost use mathlib.Core.Path.{_≡_};
 ghost use Prim.Native.Nat.{_≤_, _<_};
+ghost use lib.ListN.{length};
 ghost use Rattle.vectors.specs.Held.{Held};
 
 // ---- numbers and parts
@@ -96,7 +98,7 @@ pub fn rest(s: &[u8], start: usize) -> &[u8] {
 }
 
 // Copies the bytes into `to` from start on, as many as there is room for.
-fn copy(from: &[u8], to: &mut [u8], start: usize) {
+pub fn copy(from: &[u8], to: &mut [u8], start: usize) {
     let at = at_most(start, to.len());
     let n = at_most(from.len(), to.len() - at);
     let mut i = 0;
@@ -106,14 +108,24 @@ fn copy(from: &[u8], to: &mut [u8], start: usize) {
     }
 }
 
-// Takes the bytes of the memory from number i on.
-pub fn load(memory: &[u8], given: &[u8], i: usize, to: &mut [u8]) {
-    copy(rest(memory, number(given, i)), to, 0);
+// ---- rooms, all bytes A5
+
+pub fn room() -> [u8; 16384]
+    ensures { λ r. ⌜ 16384 ≡ length r ⌝ }
+{
+    [0xA5; 16384]
 }
 
-// Puts the bytes into the memory from number i on.
-pub fn store(from: &[u8], memory: &mut [u8], given: &[u8], i: usize) {
-    copy(from, memory, number(given, i));
+pub fn room_of_words() -> [u32; 4100]
+    ensures { λ r. ⌜ 4100 ≡ length r ⌝ }
+{
+    [0xA5A5A5A5; 4100]
+}
+
+pub fn room_of_signed() -> [i32; 2048]
+    ensures { λ r. ⌜ 2048 ≡ length r ⌝ }
+{
+    [-1515870811; 2048]
 }
 
 // ---- written
@@ -230,9 +242,9 @@ pub fn absorb_words(sponge: Sponge, values: &[u32], n: usize, shown: bool) -> Sp
 }
 
 // The same, two's complement.
-fn absorb_signed(values: &[i32], n: usize, shown: bool) -> Sponge {
+pub fn absorb_signed(sponge: Sponge, values: &[i32], n: usize, shown: bool) -> Sponge {
     let most = at_most(n, values.len());
-    let mut state = Sponge::blank();
+    let mut state = sponge;
     let mut i = 0;
     while i < most {
         let next = absorb_word(state, bits_of(values[i]), shown);
@@ -240,24 +252,6 @@ fn absorb_signed(values: &[i32], n: usize, shown: bool) -> Sponge {
         i += 1;
     }
     state
-}
-
-// The first n values, in 4 bytes each.
-pub fn print_words(values: &[u32], n: usize) {
-    absorb_words(Sponge::blank(), values, n, true);
-}
-
-pub fn print_signed(values: &[i32], n: usize) {
-    absorb_signed(values, n, true);
-}
-
-// Their hash.
-pub fn hash_words(values: &[u32], n: usize) {
-    print_squeezed(absorb_words(Sponge::blank(), values, n, false));
-}
-
-pub fn hash_signed(values: &[i32], n: usize) {
-    print_squeezed(absorb_signed(values, n, false));
 }
 
 // The first n values, in 2 bytes each.

@@ -11,11 +11,11 @@ use shake::Sponge;
 ghost use mathlib.Core.Path.{_≡_};
 ghost use lib.ListN.{length};
 
-// 524,288 zeros: the whole input goes in.
+// The input, and the memory: every byte is A5 before something goes in.
 fn buffer() -> [u8; 524288]
     ensures { λ r. ⌜ 524288 ≡ length r ⌝ }
 {
-    [0; 524288]
+    [0xA5; 524288]
 }
 
 // Runs the case of a letter with what its piece holds. Answers the sponge after it.
@@ -50,6 +50,6 @@ fn run(s: &[u8], memory: &mut [u8]) {
 fn main() {
     let mut input = buffer();
     let n = io::read_full(0, &mut input);
-    let mut memory = scheme::memory();
+    let mut memory = buffer();
     run(&input[..n], &mut memory);
 }

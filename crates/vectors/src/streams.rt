@@ -21,52 +21,40 @@ ghost use Rattle.sampling.specs.Asks.{DrawY};
 
 // ---- over a lent stream
 
-fn places_a() -> [u32; 2048]
-    ensures { λ r. ⌜ 2048 ≡ length r ⌝ }
-{
-    [0xA5A5A5A5; 2048]
-}
-
-fn places_y() -> [i32; 2048]
-    ensures { λ r. ⌜ 2048 ≡ length r ⌝ }
-{
-    [-1515870811; 2048]
-}
-
-fn places() -> [u16; 2048]
+fn room_of_positions() -> [u16; 2048]
     ensures { λ r. ⌜ 2048 ≡ length r ⌝ }
 {
     [0xA5A5; 2048]
 }
 
-fn places_of_signs() -> [i8; 2048]
+fn room_of_signs() -> [i8; 2048]
     ensures { λ r. ⌜ 2048 ≡ length r ⌝ }
 {
     [-91; 2048]
 }
 
 fn lent_a(given: &[u8]) {
-    let mut places = places_a();
-    let out: &mut [u32] = &mut places;
+    let mut room = bytes::room_of_words();
+    let out: &mut [u32] = &mut room;
     let n = bytes::fit_words(given, 0, out);
     bytes::print_answer(sampling::take_a(bytes::rest(given, 4), &mut out[..n]));
-    bytes::print_words(out, n);
+    bytes::absorb_words(Sponge::blank(), out, n, true);
 }
 
 fn lent_y(given: &[u8]) {
-    let mut places = places_y();
-    let out: &mut [i32] = &mut places;
+    let mut room = bytes::room_of_signed();
+    let out: &mut [i32] = &mut room;
     let n = bytes::fit_signed(given, 0, out);
     bytes::print_answer(sampling::take_y(bytes::rest(given, 4), &mut out[..n]));
-    bytes::print_signed(out, n);
+    bytes::absorb_signed(Sponge::blank(), out, n, true);
 }
 
 fn lent_positions(given: &[u8]) {
-    let mut places = places();
-    let positions: &mut [u16] = &mut places;
+    let mut room = room_of_positions();
+    let positions: &mut [u16] = &mut room;
     let n = bytes::fit_pairs(given, 0, positions);
-    let mut places_of_signs = places_of_signs();
-    let signs: &mut [i8] = &mut places_of_signs;
+    let mut sign_room = room_of_signs();
+    let signs: &mut [i8] = &mut sign_room;
     let m = bytes::fit_signs(given, 1, signs);
     bytes::print_answer(sampling::take_positions(
         bytes::rest(given, 8),
@@ -106,7 +94,7 @@ fn drawn_y(given: &[u8]) {
     let counter = (bytes::word(given, 0) % 65536) as u16;
     let mut y = [0i32; SetI::N];
     sampling::drawn::draw_y(SetI::numbers(), bytes::rest(given, 4), counter, &mut y);
-    bytes::hash_signed(&y, SetI::N);
+    bytes::print_squeezed(bytes::absorb_signed(Sponge::blank(), &y, SetI::N, false));
 }
 
 fn enc(c: &[u8]) {

@@ -14,6 +14,8 @@ drawn-y-spec =
     (λ c κs. search needs)
     (λ c. search needs)
     (λ c κs. search (draw-y-i, needs))
+    (λ c κs. search needs)
     (λ c. search needs)
+    (λ c κs. search needs)
     (λ c κs. search needs)
     (λ c. search needs))
