@@ -29,7 +29,11 @@ const ROOM: usize = 16384;
 fn stretch(memory: &[u8], i: usize) -> &[u8]
     requires { ⌜ i < 256 ⌝ }
 {
-    bytes::part(memory, bytes::number(memory, i), bytes::number(memory, i + 1))
+    bytes::part(
+        memory,
+        bytes::number(memory, i),
+        bytes::number(memory, i + 1),
+    )
 }
 
 // Takes the bytes from the start at number i on.
@@ -90,11 +94,7 @@ fn check(memory: &[u8]) {
 
 fn write_t(memory: &[u8], t: &mut [u32], public: &mut [u8]) {
     let n = bytes::words(stretch(memory, 2), t);
-    bytes::print_answer(records::write_public(
-        &t[..n],
-        stretch(memory, 4),
-        public,
-    ));
+    bytes::print_answer(records::write_public(&t[..n], stretch(memory, 4), public));
 }
 
 fn write_public(memory: &[u8], public: &mut [u8]) {
@@ -115,11 +115,7 @@ fn write_secret(memory: &[u8], secret: &mut [u8]) {
 
 fn write_z(memory: &[u8], z: &mut [i32], signature: &mut [u8]) {
     let n = bytes::signed_words(stretch(memory, 2), z);
-    bytes::print_answer(signatures::write_signature(
-        &z[..n],
-        stretch(memory, 4),
-        signature,
-    ));
+    bytes::print_answer(signatures::write_signature(&z[..n], stretch(memory, 4), signature));
 }
 
 fn write_signature(memory: &[u8], signature: &mut [u8]) {
@@ -157,11 +153,7 @@ fn read_public(memory: &[u8]) {
     let mut room = bytes::room();
     let seed_a: &mut [u8] = &mut room;
     let m = bytes::fit(memory, 3, seed_a);
-    bytes::print_answer(records::read_public(
-        stretch(memory, 0),
-        &mut t[..n],
-        &mut seed_a[..m],
-    ));
+    bytes::print_answer(records::read_public(stretch(memory, 0), &mut t[..n], &mut seed_a[..m]));
     bytes::print_squeezed(bytes::absorb_words(Sponge::blank(), t, n, false));
     bytes::hash(seed_a, m);
 }
@@ -173,11 +165,7 @@ fn read_signature(memory: &[u8]) {
     let mut room = bytes::room();
     let c: &mut [u8] = &mut room;
     let m = bytes::fit(memory, 3, c);
-    bytes::print_answer(signatures::read_signature(
-        stretch(memory, 0),
-        &mut z[..n],
-        &mut c[..m],
-    ));
+    bytes::print_answer(signatures::read_signature(stretch(memory, 0), &mut z[..n], &mut c[..m]));
     bytes::print_squeezed(bytes::absorb_signed(Sponge::blank(), z, n, false));
     bytes::hash(c, m);
 }
