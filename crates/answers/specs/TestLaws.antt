@@ -1,6 +1,5 @@
 -- Laws of tests in a row, of the answer that they give and of what an output holds then.
 --     answer-pass, answer-fail      a first test that passes, and one that does not
---     answer-first, answer-rest     where the answer is 0 the first test passes, and so do the others
 --     answer-before, answer-past    a refusal is the answer, whatever follows it; where tests pass, what follows them decides
 --     after-done, after-refused, after-other      an output after the answer 0, and after any other
 --     before, beyond                what a function answers that makes the tests of another first
@@ -16,7 +15,7 @@ use lib.Dec.{eqb, leb, ltb}
 use borrow.Author.Tests.{eqb-true, eqb-false, eq-eqb, ne-eqb, le-leb, lt-leb, leb-true, ltb-true, not-true, not-false}
 use Rattle.whole.specs.Every.{every}
 use Rattle.whole.specs.EveryLaws.{both-first, both-second}
-use Rattle.answers.specs.Tests.{Test, _orElse_, answer, after, Answered}
+use Rattle.answers.specs.Tests.{Test, _orElse_, answer, after, numbered, AllPass, Answered}
 
 -- ---- the answer
 
@@ -32,17 +31,6 @@ pub answer-none : answer [] ≡ 0
 unfolding answer
 answer-none = refl
 
--- with a number other than 0
-pub answer-first : (passes : Bool) (number : ℕ) (ts : List Test) → answer ((passes orElse suc number) ∷ ts) ≡ 0 → passes ≡ true
-unfolding answer
-answer-first true number ts e = refl
-answer-first false number ts e = absurd (omega arith)
-
-pub answer-rest : (passes : Bool) (number : ℕ) (ts : List Test) → answer ((passes orElse suc number) ∷ ts) ≡ 0 → answer ts ≡ 0
-unfolding answer
-answer-rest true number ts e = e
-answer-rest false number ts e = absurd (omega arith)
-
 -- a refusal among the first tests is the answer, whatever follows them
 pub answer-before : (m : ℕ) (xs ys : List Test) → answer xs ≡ suc m → answer (xs ++ ys) ≡ suc m
 unfolding answer
@@ -54,16 +42,16 @@ answer-before m (x ∷ xs) ys e = go (answer-before m xs ys) (x .passes) e
     go rest false h = h
 
 -- where the first tests pass, those that follow them decide
-pub answer-past : (xs ys : List Test) → every (λ (t : Test). ltb 0 (t .number)) xs ≡ true → answer xs ≡ 0 → answer (xs ++ ys) ≡ answer ys
+pub answer-past : (xs ys : List Test) → numbered xs ≡ true → answer xs ≡ 0 → answer (xs ++ ys) ≡ answer ys
 unfolding answer every
 answer-past [] ys n e = refl
 answer-past (x ∷ xs) ys n e =
-    go (answer-past xs ys (both-second (ltb 0 (x .number)) (every (λ (t : Test). ltb 0 (t .number)) xs) n)) (x .passes) e
+    go (answer-past xs ys (both-second (ltb 0 (x .number)) (numbered xs) n)) (x .passes) e
   where
     go : (answer xs ≡ 0 → answer (xs ++ ys) ≡ answer ys) → (b : Bool) → cond b (answer xs) (x .number) ≡ 0 → cond b (answer (xs ++ ys)) (x .number) ≡ answer ys
     go rest true h = rest h
     go rest false h =
-        absurd (omega (arith, ltb-true 0 (x .number) (both-first (ltb 0 (x .number)) (every (λ (t : Test). ltb 0 (t .number)) xs) n)))
+        absurd (omega (arith, ltb-true 0 (x .number) (both-first (ltb 0 (x .number)) (numbered xs) n)))
 
 -- ---- an output
 
@@ -124,19 +112,10 @@ misses {x} e h = sym e ∙ not-true x h
 
 -- ---- every test passes
 
--- as facts, one for each test
-unfoldable pub AllPass : List Test → Type 0
-AllPass [] = Unit
-AllPass (t ∷ ts) = (t .passes ≡ true) × AllPass ts
-
 pub all-pass : (ts : List Test) → AllPass ts → answer ts ≡ 0
 unfolding AllPass answer
 all-pass [] p = refl
 all-pass (t ∷ ts) p = rw (p .0) (all-pass ts (p .1))
-
--- no test has the number 0
-abbrev pub numbered : List Test → Bool
-numbered ts = every (λ (t : Test). ltb 0 (t .number)) ts
 
 pub passes-all : (ts : List Test) → numbered ts ≡ true → answer ts ≡ 0 → AllPass ts
 unfolding AllPass answer every

@@ -2,9 +2,11 @@
 -- test that fails, or 0. Where the answer is not 0 an output is as it was.
 -- Assumes nothing: these are definitions.
 use mathlib.Core.Path.{_≡_}
-use mathlib.Core.Bool.{Bool, cond}
+use mathlib.Core.Bool.{Bool, true, cond}
 use mathlib.Core.List.{List, [], _∷_}
 use Prim.Native.Nat.{ℕ, zero, suc}
+use lib.Dec.{ltb}
+use Rattle.whole.specs.Every.{every}
 
 pub record Test : Type 0 where
   -- whether the test passes
@@ -25,6 +27,15 @@ answer (t ∷ ts) = cond (t .passes) (answer ts) (t .number)
 unfoldable pub after : {A : Type 0} → ℕ → A → A → A
 after zero new old = new
 after (suc number) new old = old
+
+-- no test has the number 0
+abbrev pub numbered : List Test → Bool
+numbered ts = every (λ (t : Test). ltb 0 (t .number)) ts
+
+-- every test passes, as facts
+unfoldable pub AllPass : List Test → Type 0
+AllPass [] = Unit
+AllPass (t ∷ ts) = (t .passes ≡ true) × AllPass ts
 
 -- the number that comes back is the answer of these tests
 pub record Answered (ts : List Test) (number : ℕ) : Type 0 where

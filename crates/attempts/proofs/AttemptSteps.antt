@@ -5,15 +5,15 @@ use mathlib.Core.List.{List}
 use Prim.Native.Nat.{ℕ, _+_, _*_, _-_}
 use native.Mathlib.Omega.{arith}
 use lib.IntN.{ℤ}
-use lib.ListN.{length, take, drop, length-map}
+use lib.ListN.{length, take, drop}
 use Rattle.whole.specs.Every.{eachBelow}
 use Rattle.whole.specs.EveryLaws.{not-first, both-first, eachBelow-ext}
 use Rattle.ring.specs.Sparse.{sparse}
 use Rattle.sets.specs.declared.Numbers.{Numbers}
 use Rattle.sets.specs.SetI.{setI}
-use Rattle.sampling.specs.Positions.{Drawn, polynomialOf, AreDrawn}
+use Rattle.sampling.specs.Positions.{polynomialOf, AreDrawn}
 use Rattle.sampling.specs.Streams.{aOf, yOf, encOf, challenge, highsOf}
-use Rattle.sampling.specs.StreamsLaws.{allA-length, allA-below, encOf-length, encOf-signed, yOf-length}
+use Rattle.sampling.specs.StreamsLaws.{allA-length, allA-below, enc-terms, yOf-length}
 use Rattle.sampling.specs.Asks.{DrawEnc}
 use Rattle.records.specs.Layout.{polynomial, secretBytes}
 use Rattle.sets.specs.Limits.{seedBytes, digestBytes}
@@ -26,9 +26,9 @@ use Rattle.highs.specs.HighsLaws.{hashes-long}
 use Rattle.attempts.specs.declared.Tried.{Tried}
 use Rattle.attempts.specs.declared.Tried.the-variants.{Passes, Fails, Overflows}
 use Rattle.attempts.specs.Attempt.{Outcome, passes, fails, overflows, vOf, zFrom, wOf, wPasses, attemptPasses, answered, tried, attempt, keyOf}
-use Rattle.attempts.specs.Steps.{vRow, zWith, wOne, wWith, rowPasses}
-use Rattle.attempts.specs.Promises.{Committed, Challenged, Responded, concluded, Concluded, Tries, triedOf, triedSignature}
-use Rattle.attempts.specs.Asks.{Whole, Terms, MakesZ, TestsW, Commits, Responds, RespondsKey, Concludes, Places, Attempts}
+use Rattle.attempts.specs.Steps.{vRow, zWith, wOne, wWith}
+use Rattle.attempts.specs.Promises.{Committed, Challenged, Responded, Concluded, Tries, triedOf, triedSignature}
+use Rattle.attempts.specs.Asks.{Whole, MakesZ, TestsW, Commits, Responds, RespondsKey, Concludes, Places, Attempts}
 use Rattle.records.specs.SecretLaws.{s-lent, e-lent, s-lent-long, e-lent-long}
 use Rattle.attempts.proofs.ProductSteps.{yOf-within, v-all-below, v-all-length, v-parts}
 
@@ -49,14 +49,6 @@ module _ {set : Numbers} {s e v ps₀ : List ℕ} {y ss₀ z₀ : List ℤ} (r :
   respond-draws = record { good = r .good; long = r .ps-long; paired = r .ss-long }
 
   module _ (c′ : List ℕ) {ps : List ℕ} {ss : List ℤ} (d : AreDrawn (encOf set c′) ps ss) where
-    terms : Terms set ps ss
-    terms =
-        rw (d .places-are, d .signs-are)
-        (record {
-          signed = encOf-signed set (r .good) c′;
-          few = length-map (encOf set c′) (λ (t : Drawn). t .position) ∙ encOf-length set (r .good) c′;
-        })
-
     pub respond-makes : MakesZ set s y ps ss z₀
     respond-makes =
         record {
@@ -64,7 +56,7 @@ module _ {set : Numbers} {s e v ps₀ : List ℕ} {y ss₀ z₀ : List ℤ} (r :
           s-long = r .s-long;
           y-long = r .y-long;
           y-within = r .y-within;
-          terms = terms;
+          terms = enc-terms set (r .good) c′ d;
           z-long = r .z-long;
         }
 
@@ -75,7 +67,7 @@ module _ {set : Numbers} {s e v ps₀ : List ℕ} {y ss₀ z₀ : List ℤ} (r :
           e-long = r .e-long;
           v-long = r .v-long;
           v-below = r .v-below;
-          terms = terms;
+          terms = enc-terms set (r .good) c′ d;
           ec-long = r .y-long;
         }
 
@@ -88,7 +80,7 @@ module _ {set : Numbers} {s e v ps₀ : List ℕ} {y ss₀ z₀ : List ℤ} (r :
       z-test = ap (zInRange set) (sym (respond-z f)) ∙ sym g
 
       pub respond-outside : inside ≡ false → Responded set s e c′ y v z false
-      unfolding rowPasses
+      unfolding attemptPasses
       respond-outside h =
           record {
             z-is = respond-z f;
@@ -97,7 +89,7 @@ module _ {set : Numbers} {s e v ps₀ : List ℕ} {y ss₀ z₀ : List ℤ} (r :
 
       pub respond-inside : {passed : Bool} → inside ≡ true → passed ≡ eachBelow (set .k) (λ i. wPasses set (wWith set e v (sparse ps ss) i))
           → Responded set s e c′ y v z passed
-      unfolding rowPasses wOf wOne
+      unfolding attemptPasses wOf wOne
       respond-inside h w = record { z-is = respond-z f; passed-is = w ∙ rw (d .places-are, d .signs-are, z-test ∙ h) }
 
 -- with the s and e_1..e_k of the secret record
@@ -132,8 +124,8 @@ module _ {set : Numbers} {secret signature bits v : List ℕ} {y z₀ : List ℤ
     {highs : Highs} {digest c : List ℕ} (d : Challenged set highs digest secret c)
     {z : List ℤ} {passed : Bool} (r : Responded set (sOf set secret) (allE set secret) c y v z passed) where
   concluded-is : (parts : List ℤ) → Held set parts highs
-      → concluded set secret y v (challenge set parts digest (secretG set secret)) ≡ cond passed (passes z c) fails
-  unfolding concluded
+      → answered set (keyOf set secret) y (λ i. polynomial (set .n) i v) (challenge set parts digest (secretG set secret)) ≡ cond passed (passes z c) fails
+  unfolding answered keyOf
   concluded-is parts e = rw (← d .is parts e, ← r .passed-is, ← r .z-is)
 
   pub concluded-fails : passed ≡ false → Concluded set highs digest secret y v signature signature Fails
@@ -141,7 +133,7 @@ module _ {set : Numbers} {secret signature bits v : List ℕ} {y z₀ : List ℤ
 
   module _ (f : passed ≡ true) where
     pub concluded-writes : {scratch : List ℕ} → length scratch ≡ length bits → length z ≡ length z₀ → WritesChecked set z c signature scratch
-    unfolding rowPasses
+    unfolding attemptPasses
     concluded-writes s l =
         record {
           good = t .responds .whole .good;
@@ -196,9 +188,9 @@ module _ {set : Numbers} {secret a signature : List ℕ} (t : Attempts set secre
     attempt-overflows digest h = tries overflows (rw (← row-is, sym (m .held .fit-is) ∙ h)) refl
 
     module _ (h : highs .fit ≡ true) {digest new : List ℕ} {r : Tried} (d : Concluded set highs digest secret y v signature new r) where
-      same-tests : (c : List ℕ) → rowPasses set (sOf set secret) (allE set secret) y v (encOf set c)
-          ≡ attemptPasses set (keyOf set secret) (yOf set rand counter) (vRow set a (yOf set rand counter)) (encOf set c)
-      unfolding rowPasses attemptPasses wOf wOne keyOf
+      same-tests : (c : List ℕ) → attemptPasses set (sOf set secret) (allE set secret) y (λ i. polynomial (set .n) i v) (encOf set c)
+          ≡ attemptPasses set (sOf set secret) (allE set secret) (yOf set rand counter) (vRow set a (yOf set rand counter)) (encOf set c)
+      unfolding attemptPasses wOf wOne
       same-tests c =
           rw (m .y-is, m .v-is)
           (ap (λ (b : Bool). zInRange set (zFrom set (sOf set secret) (yOf set rand counter) (encOf set c)) && b)
@@ -206,8 +198,9 @@ module _ {set : Numbers} {secret a signature : List ℕ} (t : Attempts set secre
 
       -- where the high parts fit, the outcome is what follows
       outcome-is : attempt set (keyOf set secret) digest rand counter
-          ≡ concluded set secret y v (challenge set (highsOf set (vRow set a (yOf set rand counter))) digest (secretG set secret))
-      unfolding attempt tried answered keyOf concluded
+          ≡ answered set (keyOf set secret) y (λ i. polynomial (set .n) i v)
+          (challenge set (highsOf set (vRow set a (yOf set rand counter))) digest (secretG set secret))
+      unfolding attempt tried answered keyOf
       outcome-is = rw (← row-is, sym (m .held .fit-is) ∙ h, same-tests, m .y-is)
 
       pub attempt-concluded : Tries set (attempt set (keyOf set secret) digest rand counter) signature new r

@@ -1,4 +1,3 @@
-pub mod FillSteps
 pub mod RowSteps
 pub mod ProductSteps
 pub mod TestSteps

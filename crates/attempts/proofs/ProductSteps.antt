@@ -20,10 +20,10 @@ use Rattle.sets.specs.declared.Numbers.{Numbers}
 use Rattle.sets.specs.Good.{Good}
 use Rattle.sets.specs.Known.{Known, known-good}
 use Rattle.highs.specs.declared.Highs.{Highs}
-use Rattle.highs.specs.Highs.{highParts, Held, Adds}
+use Rattle.highs.specs.Highs.{Held, Adds}
 use Rattle.highs.specs.HighsLaws.{held-more}
 use Rattle.sets.specs.GoodLaws.{q-some}
-use Rattle.sampling.specs.Streams.{yOf, highsOf}
+use Rattle.sampling.specs.Streams.{yOf, highsOf, highParts}
 use Rattle.sampling.specs.StreamsLaws.{yOf-length, yOf-size}
 use Rattle.sampling.specs.Residues.{Residues, residues-factors}
 use Rattle.records.specs.Layout.{polynomial}
@@ -31,7 +31,7 @@ use Rattle.records.specs.PublicLaws.{polynomial-length, polynomial-below}
 use Rattle.attempts.specs.Steps.{productOf, vRow}
 use Rattle.attempts.specs.Asks.{Multiplies, Absorbs, Commits}
 use Rattle.attempts.specs.Promises.{Committed}
-use Rattle.attempts.proofs.FillSteps.{Filling, filling-none, filling-length, filling-fits, filling-lent, filling-more, filling-all}
+use Rattle.whole.specs.RowFill.{Filling, filling-none, filling-length, filling-fits, filling-lent, filling-more, filling-all}
 
 product-length : (set : Numbers) (a yr : List ℕ) (i : ℕ) → length (productOf set a yr i) ≡ set .n
 unfolding productOf

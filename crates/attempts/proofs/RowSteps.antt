@@ -15,7 +15,7 @@ use Rattle.sampling.specs.StreamsLaws.{allA-length, aOf-length}
 use Rattle.sets.specs.Limits.{seedBytes}
 use Rattle.records.specs.Secret.{secretSeedA}
 use Rattle.attempts.specs.Asks.{DrawsRow}
-use Rattle.attempts.proofs.FillSteps.{Filling, filling-none, filling-length, filling-fits, filling-lent, filling-more, filling-all}
+use Rattle.whole.specs.RowFill.{Filling, filling-none, filling-length, filling-fits, filling-lent, filling-more, filling-all}
 
 -- a_1..a_i are drawn
 pub record Drawing (set : Numbers) (seedA old a : List ℕ) (stream : DrawA) (i : ℕ) : Type 0 where

@@ -37,7 +37,8 @@ use Rattle.records.specs.Layout.{polynomial}
 use Rattle.records.specs.PublicLaws.{polynomial-length, polynomial-below}
 use Rattle.attempts.specs.Attempt.{wPasses}
 use Rattle.attempts.specs.Steps.{zWith, wOne, wWith}
-use Rattle.attempts.specs.Asks.{Terms, MakesZ, TestsOneW, TestsW}
+use Rattle.sampling.specs.Asks.{Terms}
+use Rattle.attempts.specs.Asks.{MakesZ, TestsOneW, TestsW}
 
 -- ---- a signed byte's product by c: at most 128 for each of c's h terms
 

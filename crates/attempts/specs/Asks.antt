@@ -7,10 +7,10 @@ use Prim.Native.Nat.{ℕ, _*_}
 use lib.IntN.{ℤ}
 use lib.ListN.{length}
 use Rattle.whole.specs.Below.{Below, Within}
-use Rattle.ring.specs.Sparse.{Signed}
 use Rattle.sets.specs.declared.Numbers.{Numbers}
 use Rattle.sets.specs.Good.{Good}
 use Rattle.sampling.specs.Streams.{allA}
+use Rattle.sampling.specs.Asks.{Terms}
 use Rattle.records.specs.Layout.{secretBytes, signatureBytes}
 use Rattle.records.specs.Secret.{secretSeedA}
 
@@ -42,11 +42,6 @@ pub record Multiplies (set : Numbers) (a yr v : List ℕ) : Type 0 where
 pub record Absorbs (set : Numbers) (v : List ℕ) : Type 0 where
   pub v-long : length v ≡ set .k * set .n
   pub v-below : Below (set .q) v
-
--- c, as h positions below n with their signs
-pub record Terms (set : Numbers) (ps : List ℕ) (ss : List ℤ) : Type 0 where
-  pub signed : Signed (set .n) ps ss
-  pub few : length ps ≡ set .h
 
 -- z: s, y, c and the place for z
 pub record MakesZ (set : Numbers) (s : List ℕ) (y : List ℤ) (ps : List ℕ) (ss : List ℤ) (z : List ℤ) : Type 0 where

@@ -47,14 +47,13 @@ wPasses set w =
     every (λ x. lowPasses (set .q) (set .d) (set .e) (pos x)) w && every (λ x. sizePasses (set .q) (set .e) (pos x)) w
 
 -- the tests of an attempt: z first, then every w_i
-unfoldable pub attemptPasses : Numbers → Key → List ℤ → (ℕ → List ℕ) → List Drawn → Bool
-attemptPasses set key y v c =
-    zInRange set (zFrom set (key .s) y c) && eachBelow (set .k) (λ i. wPasses set (wOf set (key .e) v c i))
+unfoldable pub attemptPasses : Numbers → List ℕ → List ℕ → List ℤ → (ℕ → List ℕ) → List Drawn → Bool
+attemptPasses set s e y v c = zInRange set (zFrom set s y c) && eachBelow (set .k) (λ i. wPasses set (wOf set e v c i))
 
 -- what follows once c' is known
 unfoldable pub answered : Numbers → Key → List ℤ → (ℕ → List ℕ) → List ℕ → Outcome
 answered set key y v c′ =
-    cond (attemptPasses set key y v (encOf set c′)) (passes (zFrom set (key .s) y (encOf set c′)) c′) fails
+    cond (attemptPasses set (key .s) (key .e) y v (encOf set c′)) (passes (zFrom set (key .s) y (encOf set c′)) c′) fails
 
 -- what follows once y and v_1..v_k are known
 unfoldable pub tried : Numbers → Key → List ℕ → List ℤ → (ℕ → List ℕ) → Outcome

@@ -40,13 +40,13 @@ zFrom-length set s y c = length-table (set .n) _
 pub record Passing (set : Numbers) (key : Key) (digest rand : List ℕ) (counter : ℕ) (z : List ℤ) (c′ : List ℕ) : Type 0 where
   pub fits : every fitsByte (highsOf set (vOf set (key .seedA) (yOf set rand counter))) ≡ true
   pub hash : challenge set (highsOf set (vOf set (key .seedA) (yOf set rand counter))) digest (key .g) ≡ c′
-  pub tests : attemptPasses set key (yOf set rand counter) (vOf set (key .seedA) (yOf set rand counter)) (encOf set c′) ≡ true
+  pub tests : attemptPasses set (key .s) (key .e) (yOf set rand counter) (vOf set (key .seedA) (yOf set rand counter)) (encOf set c′) ≡ true
   pub is : zFrom set (key .s) (yOf set rand counter) (encOf set c′) ≡ z
 
 inner : (set : Numbers) (key : Key) (digest rand : List ℕ) (counter : ℕ) (z : List ℤ) (c′ d : List ℕ) (b : Bool)
     → every fitsByte (highsOf set (vOf set (key .seedA) (yOf set rand counter))) ≡ true
     → challenge set (highsOf set (vOf set (key .seedA) (yOf set rand counter))) digest (key .g) ≡ d
-    → attemptPasses set key (yOf set rand counter) (vOf set (key .seedA) (yOf set rand counter)) (encOf set d) ≡ b
+    → attemptPasses set (key .s) (key .e) (yOf set rand counter) (vOf set (key .seedA) (yOf set rand counter)) (encOf set d) ≡ b
     → cond b (passes (zFrom set (key .s) (yOf set rand counter) (encOf set d)) d) fails ≡ passes z c′
     → Passing set key digest rand counter z c′
 inner set key digest rand counter z c′ d true f h t e =
@@ -55,7 +55,7 @@ inner set key digest rand counter z c′ d true f h t e =
     record {
       fits = f;
       hash = h ∙ same;
-      tests = subst (λ (x : List ℕ). attemptPasses set key (yOf set rand counter) (vOf set (key .seedA) (yOf set rand counter)) (encOf set x) ≡ true) same t;
+      tests = subst (λ (x : List ℕ). attemptPasses set (key .s) (key .e) (yOf set rand counter) (vOf set (key .seedA) (yOf set rand counter)) (encOf set x) ≡ true) same t;
       is = subst (λ (x : List ℕ). zFrom set (key .s) (yOf set rand counter) (encOf set x) ≡ z) same is;
     }
 inner set key digest rand counter z c′ d false f h t e = absurd (let x : _≡_ {A = ℕ} 0 1 = cc in omega arith)
@@ -75,10 +75,10 @@ unfolding attempt tried
 passing set key digest rand counter z c′ e = outer set key digest rand counter z c′ _ refl e
 
 -- the two halves of an attempt's tests
-pub attempt-z : (set : Numbers) (key : Key) (y : List ℤ) (v : ℕ → List ℕ) (c : List Drawn) → attemptPasses set key y v c ≡ true → zInRange set (zFrom set (key .s) y c) ≡ true
+pub attempt-z : (set : Numbers) (key : Key) (y : List ℤ) (v : ℕ → List ℕ) (c : List Drawn) → attemptPasses set (key .s) (key .e) y v c ≡ true → zInRange set (zFrom set (key .s) y c) ≡ true
 unfolding attemptPasses
 attempt-z set key y v c e = both-first (zInRange set (zFrom set (key .s) y c)) (eachBelow (set .k) (λ i. wPasses set (wOf set (key .e) v c i))) e
 
-pub attempt-w : (set : Numbers) (key : Key) (y : List ℤ) (v : ℕ → List ℕ) (c : List Drawn) → attemptPasses set key y v c ≡ true → eachBelow (set .k) (λ i. wPasses set (wOf set (key .e) v c i)) ≡ true
+pub attempt-w : (set : Numbers) (key : Key) (y : List ℤ) (v : ℕ → List ℕ) (c : List Drawn) → attemptPasses set (key .s) (key .e) y v c ≡ true → eachBelow (set .k) (λ i. wPasses set (wOf set (key .e) v c i)) ≡ true
 unfolding attemptPasses
 attempt-w set key y v c e = both-second (zInRange set (zFrom set (key .s) y c)) (eachBelow (set .k) (λ i. wPasses set (wOf set (key .e) v c i))) e

@@ -1,7 +1,7 @@
 -- What the parts of an attempt, and an attempt, promise.
 -- Assumes nothing: these are definitions.
 use mathlib.Core.Path.{_≡_}
-use mathlib.Core.Bool.{Bool, cond}
+use mathlib.Core.Bool.{Bool}
 use mathlib.Core.List.{List}
 use Prim.Native.Nat.{ℕ}
 use lib.IntN.{ℤ}
@@ -10,14 +10,15 @@ use Rattle.whole.specs.Table.{joined}
 use Rattle.sets.specs.declared.Numbers.{Numbers}
 use Rattle.sets.specs.Limits.{seedBytes}
 use Rattle.sampling.specs.Streams.{yOf, encOf, challenge, highsOf}
-use Rattle.records.specs.Secret.{sOf, allE, secretG}
+use Rattle.records.specs.Layout.{polynomial}
+use Rattle.records.specs.Secret.{secretG}
 use Rattle.signatures.specs.Signature.{signatureRecord}
 use Rattle.highs.specs.declared.Highs.{Highs}
 use Rattle.highs.specs.Highs.{Held}
 use Rattle.attempts.specs.declared.Tried.{Tried}
 use Rattle.attempts.specs.declared.Tried.the-variants.{Passes, Fails, Overflows}
-use Rattle.attempts.specs.Attempt.{Outcome, passes, fails, overflows, zFrom}
-use Rattle.attempts.specs.Steps.{vRow, rowPasses}
+use Rattle.attempts.specs.Attempt.{Outcome, passes, fails, overflows, zFrom, attemptPasses, answered, keyOf}
+use Rattle.attempts.specs.Steps.{vRow}
 
 -- y, v_1..v_k and their high parts, of a_1..a_k, rand and the counter
 pub record Committed (set : Numbers) (a rand : List ℕ) (counter : ℕ) (y : List ℤ) (v : List ℕ) (highs : Highs) : Type 0 where
@@ -33,7 +34,7 @@ pub record Challenged (set : Numbers) (highs : Highs) (digest secret c′ : List
 -- z, and whether the tests pass
 pub record Responded (set : Numbers) (s e c′ : List ℕ) (y : List ℤ) (v : List ℕ) (z : List ℤ) (passed : Bool) : Type 0 where
   pub z-is : z ≡ zFrom set s y (encOf set c′)
-  pub passed-is : passed ≡ rowPasses set s e y v (encOf set c′)
+  pub passed-is : passed ≡ attemptPasses set s e y (λ i. polynomial (set .n) i v) (encOf set c′)
 
 -- ---- an attempt
 
@@ -52,12 +53,7 @@ pub record Tries (set : Numbers) (o : Outcome) (old new : List ℕ) (r : Tried) 
   pub answer : r ≡ triedOf o
   pub signature : new ≡ triedSignature set o old
 
--- what follows once c' is known
-unfoldable pub concluded : Numbers → List ℕ → List ℤ → List ℕ → List ℕ → Outcome
-concluded set secret y v c′ =
-    cond (rowPasses set (sOf set secret) (allE set secret) y v (encOf set c′)) (passes (zFrom set (sOf set secret) y (encOf set c′)) c′) fails
-
--- the same where the high parts were absorbed
+-- what follows once c' is known, where the high parts were absorbed
 pub record Concluded (set : Numbers) (highs : Highs) (digest secret : List ℕ) (y : List ℤ) (v old new : List ℕ) (r : Tried) : Type 0 where
   pub is : (parts : List ℤ) → Held set parts highs
-      → Tries set (concluded set secret y v (challenge set parts digest (secretG set secret))) old new r
+      → Tries set (answered set (keyOf set secret) y (λ i. polynomial (set .n) i v) (challenge set parts digest (secretG set secret))) old new r

@@ -1,7 +1,6 @@
 -- What the steps of an attempt compute, over what the code holds: e_1..e_k and v_1..v_k each stand in one list, and c is a
--- polynomial, or its positions with their signs.
+-- polynomial.
 -- Assumes nothing: these are definitions.
-use mathlib.Core.Bool.{Bool, _&&_}
 use mathlib.Core.List.{List}
 use Prim.Native.Nat.{ℕ}
 use lib.IntN.{ℤ, _+ℤ_, _-ℤ_}
@@ -11,10 +10,6 @@ use Rattle.ring.specs.Lists.{naturals, integers, signedBytes, residues}
 use Rattle.sets.specs.declared.Numbers.{Numbers}
 use Rattle.records.specs.Layout.{polynomial}
 use Rattle.records.specs.Secret.{eOf}
-use Rattle.whole.specs.Every.{eachBelow}
-use Rattle.sampling.specs.Positions.{Drawn}
-use Rattle.signatures.specs.Signature.{zInRange}
-use Rattle.attempts.specs.Attempt.{zFrom, wOf, wPasses}
 
 -- a_(i + 1) y modulo q, of a_1..a_k and of y's residues
 unfoldable pub productOf : Numbers → List ℕ → List ℕ → ℕ → List ℕ
@@ -35,8 +30,3 @@ wOne set e v c = residues (set .q) (set .n) (λ j. naturals v j -ℤ mul (set .n
 -- v_(i + 1) − e_(i + 1) c modulo q
 abbrev pub wWith : Numbers → List ℕ → List ℕ → Poly → ℕ → List ℕ
 wWith set e v c i = wOne set (eOf set e i) (polynomial (set .n) i v) c
-
--- the tests of an attempt, over v_1..v_k in a row
-unfoldable pub rowPasses : Numbers → List ℕ → List ℕ → List ℤ → List ℕ → List Drawn → Bool
-rowPasses set s e y v c =
-    zInRange set (zFrom set s y c) && eachBelow (set .k) (λ i. wPasses set (wOf set e (λ j. polynomial (set .n) j v) c i))

@@ -48,7 +48,7 @@ fn absorb_highs(set: Numbers, v: &[u32]) -> Highs
 }
 
 // What is made before c' is known: y of the counter, v_1..v_k, and the high parts of v_1..v_k, absorbed. yr takes y modulo q.
-pub fn commit(
+pub(crate) fn commit(
     set: Numbers,
     a: &[u32],
     rand: &[u8; SEED_BYTES],

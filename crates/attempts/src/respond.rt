@@ -98,7 +98,7 @@ fn respond_in(
 }
 
 // The same with the s and e_1..e_k of the secret record. Makes the places for c.
-pub fn respond(
+pub(crate) fn respond(
     set: Numbers,
     secret: &[u8],
     c: &[u8; SEED_BYTES],

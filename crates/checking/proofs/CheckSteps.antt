@@ -6,8 +6,8 @@ use Prim.Native.Nat.{ℕ}
 use lib.Dec.{eqb}
 use borrow.Author.Tests.{eqb-true, not-false}
 use Rattle.whole.specs.Every.{every}
-use Rattle.answers.specs.Tests.{Answered}
-use Rattle.answers.specs.TestLaws.{AllPass, numbered, all-passed}
+use Rattle.answers.specs.Tests.{Answered, AllPass, numbered}
+use Rattle.answers.specs.TestLaws.{all-passed}
 use Rattle.sets.specs.declared.Numbers.{Numbers}
 use Rattle.sets.specs.SetI.{setI}
 use Rattle.sampling.specs.Streams.{messageDigest}

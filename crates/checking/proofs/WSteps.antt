@@ -3,6 +3,7 @@
 use mathlib.Core.Path.{_≡_, sym, ap, _∙_}
 use mathlib.Core.List.{List}
 use Prim.Native.Nat.{ℕ, _<_}
+use native.Mathlib.Omega.{arith}
 use lib.IntN.{ℤ, _-ℤ_}
 use lib.ListN.{length}
 use Rattle.whole.specs.Residue.{Same}
@@ -29,8 +30,8 @@ module _ {set : Numbers} {t zr ps : List ℕ} {ss : List ℤ} {a w : List ℕ} (
         some = q-some (asked .good);
         long = asked .t-is .long ∙ sym (asked .a-is .long);
         below = asked .t-is .below;
-        terms = rw (asked .t-is .long) (asked .c-is .terms);
-        few = asked .c-is .few;
+        terms = rw (asked .t-is .long) (asked .c-is .signed);
+        few = omega (arith, asked .good .h-drawn, asked .c-is .few);
       }
 
   module _ {w₁ tc : List ℕ}

@@ -41,7 +41,8 @@ use Rattle.checking.specs.declared.hash.Walk.{Walk}
 use Rattle.checking.specs.Check.{publicG, workTests}
 use Rattle.checking.specs.Asks.{ForT, ForEachT, ForHighs, ForResidues, ForResiduesIn, Tested, ForWork}
 use Rattle.checking.specs.Steps.{highsUpto, highsOfRecord, Begun, OneMore, Walked, Judged}
-use Rattle.checking.specs.StepsLaws.{walked-none, walked-asks, walked-more, drawn-challenge, hash-answered}
+use Rattle.sampling.specs.StreamsLaws.{enc-terms}
+use Rattle.checking.specs.StepsLaws.{walked-none, walked-asks, walked-more, hash-answered}
 
 -- ---- z
 
@@ -145,7 +146,7 @@ turn-all {set} {public} {zr} {ps} {ss} {walk = walk} turn l =
 
 pub each-asks : {set : Numbers} {public zr t ps : List ℕ} {ss : List ℤ} (c′ : List ℕ) → ForHighs set public zr t → AreDrawn (encOf set c′) ps ss
     → ForEachT set public zr ps ss t
-each-asks c′ asked drawn = record { for-highs = asked; c-is = drawn-challenge c′ (asked .good) drawn }
+each-asks c′ asked drawn = record { for-highs = asked; c-is = enc-terms _ (asked .good) c′ drawn }
 
 pub highs-are : {set : Numbers} (public c′ zr : List ℕ) {ps : List ℕ} {ss : List ℤ} {highs : Highs} → AreDrawn (encOf set c′) ps ss
     → Held set (highsUpto set (seedAOf set public) (tOf set public) zr ps ss (set .k)) highs → Held set (highsOfRecord set public zr c′) highs

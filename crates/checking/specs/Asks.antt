@@ -4,31 +4,25 @@
 use mathlib.Core.Bool.{true}
 use mathlib.Core.List.{List}
 use mathlib.Core.Path.{_≡_}
-use Prim.Native.Nat.{ℕ, _^_, _≤_, _<_}
+use Prim.Native.Nat.{ℕ, _≤_}
 use lib.IntN.{ℤ}
 use lib.ListN.{length}
-use Rattle.ring.specs.Sparse.{Signed}
 use Rattle.sets.specs.declared.Numbers.{Numbers}
 use Rattle.sets.specs.Good.{Good}
 use Rattle.sampling.specs.declared.drawn.DrawA.{DrawA}
 use Rattle.sampling.specs.DrawA.{ValidA}
 use Rattle.sampling.specs.Residues.{Residues}
+use Rattle.sampling.specs.Asks.{Terms}
 use Rattle.records.specs.Layout.{publicBytes, signatureBytes}
 use Rattle.records.specs.Public.{tInRange, allT}
 use Rattle.signatures.specs.Signature.{zOf, zInRange}
-
--- c, as positions with signs
-pub record Challenge (set : Numbers) (ps : List ℕ) (ss : List ℤ) : Type 0 where
-  pub terms : Signed (set .n) ps ss
-  -- a coefficient's sum fits the machine's word
-  pub few : length ps < 2 ^ 16
 
 -- what `one_w` asks: t and z modulo q, c, a, and a place for w
 pub record ForW (set : Numbers) (t zr ps : List ℕ) (ss : List ℤ) (a w : List ℕ) : Type 0 where
   pub good : Good set
   pub t-is : Residues set t
   pub z-is : Residues set zr
-  pub c-is : Challenge set ps ss
+  pub c-is : Terms set ps ss
   pub a-is : Residues set a
   pub w-long : length w ≡ set .n
 
@@ -38,7 +32,7 @@ pub record ForT (set : Numbers) (draw : DrawA) (t zr ps : List ℕ) (ss : List �
   pub needed : set .n ≤ draw .need
   pub t-is : Residues set t
   pub z-is : Residues set zr
-  pub c-is : Challenge set ps ss
+  pub c-is : Terms set ps ss
 
 -- and places for a_i and w_i
 pub record ForTIn (set : Numbers) (draw : DrawA) (t zr ps : List ℕ) (ss : List ℤ) (a w : List ℕ) : Type 0 where
@@ -72,7 +66,7 @@ pub record ForHighsIn (set : Numbers) (public zr positions : List ℕ) (signs : 
 -- what `each_t` asks: the same with c
 pub record ForEachT (set : Numbers) (public zr ps : List ℕ) (ss : List ℤ) (t : List ℕ) : Type 0 where
   pub for-highs : ForHighs set public zr t
-  pub c-is : Challenge set ps ss
+  pub c-is : Terms set ps ss
 
 -- what `z_residues` asks: a tested signature record, and a place for z's residues
 pub record ForResidues (set : Numbers) (signature zr : List ℕ) : Type 0 where

@@ -11,7 +11,7 @@ use Rattle.ring.specs.Product.{mul}
 use Rattle.ring.specs.Lists.{naturals, residues}
 use Rattle.ring.specs.Sparse.{sparse}
 use Rattle.sets.specs.declared.Numbers.{Numbers}
-use Rattle.sampling.specs.Streams.{aOf, encOf}
+use Rattle.sampling.specs.Streams.{aOf, encOf, highParts}
 use Rattle.sampling.specs.Residues.{Residues}
 use Rattle.sampling.specs.Positions.{positionsOf, signsOf}
 use Rattle.sampling.specs.DrawA.{valuesLeft}
@@ -19,7 +19,7 @@ use Rattle.sampling.specs.DrawALaws.{AtA}
 use Rattle.sampling.specs.Promises.{StartedA, AfterA}
 use Rattle.records.specs.Public.{tOf, seedAOf}
 use Rattle.highs.specs.declared.Highs.{Highs}
-use Rattle.highs.specs.Highs.{highParts, Held, Adds}
+use Rattle.highs.specs.Highs.{Held, Adds}
 use Rattle.checking.specs.declared.hash.Walk.{Walk}
 use Rattle.checking.specs.Check.{highTests}
 

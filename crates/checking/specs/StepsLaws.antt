@@ -1,15 +1,13 @@
 -- Laws of the steps of checking.
 --     walked-none, walked-asks, walked-more      w_1, w_2, .. one after another, from whatever gives t_1..t_k
---     drawn-challenge      what is drawn from c' has the form that they ask of c
 --     hash-answered        the answer on the high parts of w_1..w_k is the answer of the tests of the hash
 -- Assumes nothing.
 use mathlib.Core.Path.{_≡_, refl, sym, ap, ap₂, subst, _∙_}
 use mathlib.Core.List.{List, _++_}
 use Prim.Native.Nat.{ℕ, _+_, _<_}
 use native.Mathlib.Numerals.{add-one}
-use native.Mathlib.Omega.{arith}
 use lib.IntN.{ℤ}
-use lib.ListN.{take, length-map}
+use lib.ListN.{take}
 use Rattle.whole.specs.ResidueLaws.{residue-eq, same-refl, same-minus}
 use Rattle.whole.specs.Table.{joined}
 use Rattle.whole.specs.TableLaws.{joined-ext, table-ext}
@@ -20,19 +18,19 @@ use Rattle.ring.specs.ListsLaws.{mul-residues}
 use Rattle.sets.specs.declared.Numbers.{Numbers}
 use Rattle.sets.specs.Good.{Good}
 use Rattle.sets.specs.GoodLaws.{q-some}
-use Rattle.sampling.specs.Positions.{Drawn, AreDrawn, positionsOf, signsOf, polynomialOf}
-use Rattle.sampling.specs.Streams.{aOf, encOf, highsOf}
-use Rattle.sampling.specs.StreamsLaws.{encOf-length, encOf-signed}
+use Rattle.sampling.specs.Positions.{positionsOf, signsOf, polynomialOf}
+use Rattle.sampling.specs.Streams.{aOf, encOf, highsOf, highParts}
 use Rattle.sampling.specs.DrawA.{valuesLeft}
 use Rattle.sampling.specs.DrawALaws.{at-first, at-asks, at-written, at-next}
 use Rattle.sampling.specs.Residues.{Residues}
 use Rattle.highs.specs.declared.Highs.{Highs}
-use Rattle.highs.specs.Highs.{highParts, Held}
+use Rattle.highs.specs.Highs.{Held}
 use Rattle.highs.specs.HighsLaws.{held-more}
 use Rattle.checking.specs.declared.hash.Walk.{Walk}
 use Rattle.checking.specs.Check.{checkW, checkHighs, hashTests}
 use Rattle.checking.specs.Steps.{wFrom, highsUpto, Begun, OneMore, Walked, Judged}
-use Rattle.checking.specs.Asks.{Challenge, ForT}
+use Rattle.sampling.specs.Asks.{Terms}
+use Rattle.checking.specs.Asks.{ForT}
 
 -- ---- one w after another
 
@@ -42,7 +40,7 @@ module _ {set : Numbers} {seedA : List ℕ} {t : ℕ → List ℕ} {zr ps : List
   walked-none b = record { draw-is = at-first (b .draw-is); highs-are = b .highs-are }
 
   module _ {i : ℕ} {walk : Walk} (walked : Walked set seedA t zr ps ss i walk) (l : i < set .k) where
-    pub walked-asks : {tᵢ : List ℕ} → Good set → Residues set tᵢ → Residues set zr → Challenge set ps ss → ForT set (walk .draw) tᵢ zr ps ss
+    pub walked-asks : {tᵢ : List ℕ} → Good set → Residues set tᵢ → Residues set zr → Terms set ps ss → ForT set (walk .draw) tᵢ zr ps ss
     walked-asks good t-is z-is c-is =
         record {
           valid = walked .draw-is .valid;
@@ -69,17 +67,6 @@ module _ {set : Numbers} {seedA : List ℕ} {t : ℕ → List ℕ} {zr ps : List
 
         upto : highsUpto set seedA t zr ps ss (i + 1) ≡ made ++ highParts set (wFrom set (aOf set seedA i) (t i) zr ps ss)
         upto = rw add-one
-
--- ---- c
-
-pub drawn-challenge : {set : Numbers} (c′ : List ℕ) {ps : List ℕ} {ss : List ℤ} → Good set → AreDrawn (encOf set c′) ps ss → Challenge set ps ss
-drawn-challenge {set} c′ good drawn =
-    record {
-      terms = rw (drawn .places-are, drawn .signs-are) (encOf-signed set good c′);
-      few =
-          rw (drawn .places-are)
-          (omega (arith, length-map (encOf set c′) (λ (x : Drawn). x .position), encOf-length set good c′, good .h-drawn));
-    }
 
 -- ---- all of them
 

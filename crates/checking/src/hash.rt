@@ -24,7 +24,7 @@ pub struct Walk {
 }
 
 // Before the first t_i.
-pub fn begin(set: Numbers, seed_a: &[u8]) -> Walk
+pub(crate) fn begin(set: Numbers, seed_a: &[u8]) -> Walk
     requires { ⌜ Good set ⌝ }
     ensures { λ r. ⌜ Begun set (now («seed_a» .entry)) r ⌝ }
 {
@@ -89,7 +89,7 @@ fn add_t_i(set: Numbers, walk: Walk, t: &[u32], zr: &[u32], positions: &[u16], s
 }
 
 // The same in every set that there is.
-pub fn add_t(
+pub(crate) fn add_t(
     set: Numbers,
     walk: Walk,
     t: &[u32],
@@ -126,7 +126,7 @@ fn same_bytes(a: &[u8], b: &[u8]) -> bool
 }
 
 // The tests 10 and 11: every high part fits its byte, and H of them, of G of the message and of g is c'.
-pub fn judge(
+pub(crate) fn judge(
     set: Numbers,
     highs: Highs,
     digest: &[u8; DIGEST_BYTES],

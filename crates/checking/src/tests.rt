@@ -7,7 +7,7 @@ ghost use Rattle.sets.specs.Known.{Known};
 ghost use Rattle.checking.specs.Check.{inputTests};
 
 // The tests 1, 2, 3, 5 and 9, the message by its length.
-pub fn test_inputs(set: Numbers, public: &[u8], message: usize, signature: &[u8]) -> Answer
+pub(crate) fn test_inputs(set: Numbers, public: &[u8], message: usize, signature: &[u8]) -> Answer
     requires { ⌜ Known set ⌝ }
     ensures { λ r. ⌜ Answered (inputTests set (now (public .entry)) message (now (signature .entry))) (numberOf r) ⌝ }
 {

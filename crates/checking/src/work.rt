@@ -158,7 +158,7 @@ fn check_hash_i(
 }
 
 // The same in every set that there is.
-pub fn check_hash(
+pub(crate) fn check_hash(
     set: Numbers,
     public: &[u8],
     digest: &[u8; DIGEST_BYTES],

@@ -17,8 +17,8 @@ use lib.ListN.{getD}
 use borrow.Author.Tests.{eq-eqb, leb-true}
 use Rattle.whole.specs.Every.{every}
 use Rattle.whole.specs.EveryLaws.{both-first, both-second}
-use Rattle.answers.specs.Tests.{Test, _orElse_, answer, after}
-use Rattle.answers.specs.TestLaws.{AllPass, numbered, passes-all, after-refused}
+use Rattle.answers.specs.Tests.{Test, _orElse_, answer, after, AllPass, numbered}
+use Rattle.answers.specs.TestLaws.{passes-all, after-refused}
 use Rattle.sets.specs.declared.Numbers.{Numbers}
 use Rattle.sampling.specs.Lent.{testsA, testsY, testsEnc}
 use Rattle.records.specs.Public.{publicTests, readPublicTests, writePublicTests}

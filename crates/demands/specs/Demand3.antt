@@ -238,7 +238,7 @@ highs-fit set q-some h v =
 -- so no attempt meets 10
 outcome-fits : (set : Numbers) (key : Key) (digest : List ℕ) (y : List ℤ) (v : ℕ → List ℕ) → every fitsByte (highsOf set v) ≡ true → tried set key digest y v ≡ overflows → ⊥
 unfolding tried answered
-outcome-fits set key digest y v f e = go (attemptPasses set key y v (encOf set c′)) (rw f at e)
+outcome-fits set key digest y v f e = go (attemptPasses set (key .s) (key .e) y v (encOf set c′)) (rw f at e)
   where
     c′ : List ℕ
     c′ = challenge set (highsOf set v) digest (key .g)

@@ -13,8 +13,8 @@ use borrow.Author.Tests.{eq-eqb, eqb-true, le-leb, leb-true}
 use Rattle.whole.specs.Below.{Below}
 use Rattle.whole.specs.Parts.{part-length, part-second, part-last, parts-join}
 use Rattle.whole.specs.Every.{every}
-use Rattle.answers.specs.Tests.{answer, after}
-use Rattle.answers.specs.TestLaws.{AllPass, numbered, all-pass, passes-all, answer-past}
+use Rattle.answers.specs.Tests.{answer, after, AllPass, numbered}
+use Rattle.answers.specs.TestLaws.{all-pass, passes-all, answer-past}
 use Rattle.sets.specs.declared.Numbers.{Numbers}
 use Rattle.sets.specs.Limits.{messageLimit}
 use Rattle.sampling.specs.Streams.{twoBytes}

@@ -13,7 +13,7 @@ ghost use Rattle.sets.specs.Limits.{messageLimit};
 ghost use Rattle.envelope.specs.Envelope.{envelopeBytes, teamOf, lengthOf, headTests};
 
 // The bytes before the roster.
-pub(crate) const HEAD_BYTES: usize = 6;
+pub const HEAD_BYTES: usize = 6;
 
 // The number of two bytes, low first.
 fn number(low: u8, high: u8) -> u16

@@ -1,5 +1,5 @@
 // The envelope: a roster under its team number, with the signature record that signs it.
-mod head;
+pub mod head;
 mod parts;
 mod reading;
 mod writing;

@@ -4,21 +4,16 @@ use mathlib.Core.Path.{_≡_}
 use mathlib.Core.Bool.{_&&_}
 use mathlib.Core.List.{List, map}
 use Prim.Native.Nat.{ℕ}
-use lib.IntN.{ℤ, pos}
+use lib.IntN.{ℤ}
 use Rattle.whole.specs.Every.{every}
 use Rattle.whole.specs.Twos.{twos}
-use Rattle.rounding.specs.Parts.{high}
 use Rattle.rounding.specs.Tests.{fitsByte}
 use Rattle.shake.specs.Sponge.{absorbed, squeezed}
 use Rattle.sets.specs.declared.Numbers.{Numbers}
 use Rattle.sets.specs.Limits.{seedBytes}
 use Rattle.sets.specs.Marks.{fresh}
-use Rattle.sampling.specs.Streams.{challenge}
+use Rattle.sampling.specs.Streams.{challenge, highParts}
 use Rattle.highs.specs.declared.Highs.{Highs}
-
--- the high parts of one polynomial
-abbrev pub highParts : Numbers → List ℕ → List ℤ
-highParts set v = map (λ x. high (set .q) (set .d) (pos x)) v
 
 -- these have been absorbed, one signed byte each, and tested
 pub record Held (set : Numbers) (parts : List ℤ) (r : Highs) : Type 0 where

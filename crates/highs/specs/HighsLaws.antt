@@ -18,7 +18,8 @@ use Rattle.sets.specs.declared.Numbers.{Numbers}
 use Rattle.sets.specs.Limits.{seedBytes}
 use Rattle.sets.specs.Marks.{fresh}
 use Rattle.highs.specs.declared.Highs.{Highs}
-use Rattle.highs.specs.Highs.{highParts, Held, Adds, Hashes}
+use Rattle.sampling.specs.Streams.{highParts}
+use Rattle.highs.specs.Highs.{Held, Adds, Hashes}
 
 pub held-more : {set : Numbers} {parts : List ℤ} {before : Highs} {v : List ℕ} {r : Highs} → Held set parts before → Adds set before v r
     → Held set (parts ++ highParts set v) r

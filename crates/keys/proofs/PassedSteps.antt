@@ -7,8 +7,8 @@ use lib.Dec.{eqb}
 use lib.ListN.{length}
 use borrow.Author.Tests.{eqb-true}
 use Rattle.whole.specs.Every.{every}
-use Rattle.answers.specs.Tests.{Answered}
-use Rattle.answers.specs.TestLaws.{AllPass, all-passed}
+use Rattle.answers.specs.Tests.{Answered, AllPass}
+use Rattle.answers.specs.TestLaws.{all-passed}
 use Rattle.sets.specs.declared.Numbers.{Numbers}
 use Rattle.sets.specs.Known.{Known, known-good}
 use Rattle.records.specs.Secret.{byteTests}

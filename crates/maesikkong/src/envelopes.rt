@@ -12,7 +12,11 @@ ghost use Rattle.maesikkong.specs.Promises.{OpensAt};
 fn start_with(answer: Answer) -> usize
     ensures { λ r. ⌜ r ≡ after (numberOf answer) headBytes 0 ⌝ }
 {
-    if answer.is_done() { 6 } else { 0 }
+    if answer.is_done() {
+        envelope::head::HEAD_BYTES
+    } else {
+        0
+    }
 }
 
 // Writes the envelope of the team number, the roster and its signature record. 0, 1, 2, 3, 9.

@@ -16,11 +16,12 @@ use Rattle.whole.specs.Every.{every, eachBelow}
 use Rattle.whole.specs.EveryLaws.{Passing, passing-more, passing-fails, passing-all, every-joined, eachBelow-none, eachBelow-more, eachBelow-fails, eachBelow-end}
 use Rattle.whole.specs.Parts.{part-length}
 use Rattle.whole.specs.Rows.{row-fits}
+use Rattle.whole.specs.RowFill.{Filling, filling-none, filling-length, filling-fits, filling-lent, filling-more, filling-all}
 use Rattle.whole.specs.Table.{joined}
 use Rattle.whole.specs.TableLaws.{joined-length}
-use Rattle.whole.specs.Written.{lent-rest, put-rest, Written, written-none, written-kept, written-length, written-more, written-all, put-part}
-use Rattle.answers.specs.Tests.{Answered}
-use Rattle.answers.specs.TestLaws.{AllPass, all-passed, holds, misses}
+use Rattle.whole.specs.Written.{lent-rest, put-rest, Written, written-kept, written-length, written-more}
+use Rattle.answers.specs.Tests.{Answered, AllPass}
+use Rattle.answers.specs.TestLaws.{all-passed, holds, misses}
 use Rattle.packing.specs.Digits.{bytesFor, packed, unpacked, Packs, Unpacks}
 use Rattle.sets.specs.declared.Numbers.{Numbers}
 use Rattle.sets.specs.Good.{Good}
@@ -134,51 +135,33 @@ module _ {s : Numbers} {public old scratch : List ℕ} {i : ℕ} (p : Ranging s 
 -- ---- t_1..t_k are read
 
 -- t_1..t_i stand in t
-pub record ReadingT (s : Numbers) (public old t : List ℕ) (i : ℕ) : Type 0 where
-  pub near : i ≤ s .k
-  pub done : Written (joined i (tOf s public)) old t
+abbrev pub ReadingT : Numbers → List ℕ → List ℕ → List ℕ → ℕ → Type 0
+ReadingT s public old t i = Filling (s .n) (s .k) (tOf s public) old t i
 
-pub reading-none : (s : Numbers) (public old : List ℕ) → ReadingT s public old old 0
-unfolding joined
-reading-none s public old = record { near = zero-le; done = written-none old }
+module _ {s : Numbers} {public old : List ℕ} (r : ReadsAllT s public old) where
+  each : (i : ℕ) → i < s .k → length (tOf s public i) ≡ s .n
+  each i l = tOf-length s public i
 
-module _ {s : Numbers} {public old t : List ℕ} {i : ℕ} (r : ReadsAllT s public old) (p : ReadingT s public old t i) where
-  pub reading-length : length t ≡ length old
-  reading-length = written-length (p .done)
+  pub reading-none : ReadingT s public old old 0
+  reading-none = filling-none (r .room) each
 
-  pub reading-fits : i < s .k → s .n * i + s .n ≤ length t
-  reading-fits l = omega (arith, row-fits (s .n) (s .k) i l, reading-length, r .room)
+  module _ {t : List ℕ} {i : ℕ} (p : ReadingT s public old t i) where
+    pub reading-length : length t ≡ length old
+    reading-length = filling-length (r .room) each p
 
-  pub reading-reads : i < s .k → ReadsT s public i (take (s .n * i + s .n - s .n * i) (drop (s .n * i) t))
-  reading-reads l =
-      record {
-        good = r .good;
-        long = r .long;
-        inside = l;
-        room = rw (add-sub-cancel-left (s .n * i) (s .n)) (part-length (s .n * i) (s .n) t (reading-fits l));
-      }
+    pub reading-fits : i < s .k → s .n * i + s .n ≤ length t
+    reading-fits l = filling-fits (r .room) each p l
 
-  so-far : length (joined i (tOf s public)) ≡ i * s .n
-  so-far = joined-length i (s .n) (tOf s public) (λ j l. tOf-length s public j)
+    pub reading-reads : i < s .k → ReadsT s public i (take (s .n * i + s .n - s .n * i) (drop (s .n * i) t))
+    reading-reads l = record { good = r .good; long = r .long; inside = l; room = filling-lent (r .room) each p l }
 
-  pub reading-more : {ys : List ℕ} {next : ℕ} → i < s .k → ys ≡ tOf s public i → next ≡ i + 1
-      → ReadingT s public old (take (s .n * i) t ++ (ys ++ drop (s .n * i + s .n - s .n * i) (drop (s .n * i) t))) next
-  unfolding joined
-  reading-more {ys} l e n =
-      rw (n, add-one)
-      (record {
-        near = l;
-        done =
-            written-more (p .done) (s .n * i) (s .n) (tOf s public i) (mul-comm (s .n) i ∙ sym so-far) (tOf-length s public i)
-            (omega (arith, reading-fits l, reading-length))
-            (rw (e, add-sub-cancel-left (s .n * i) (s .n)) (put-part (s .n * i) (s .n) t (tOf s public i)));
-      })
+    pub reading-more : {ys : List ℕ} {next : ℕ} → i < s .k → ys ≡ tOf s public i → next ≡ i + 1
+        → ReadingT s public old (take (s .n * i) t ++ (ys ++ drop (s .n * i + s .n - s .n * i) (drop (s .n * i) t))) next
+    reading-more {ys} l e n = rw n (filling-more (r .room) each p l ys e)
 
-  pub reading-all : s .k ≤ i → t ≡ allT s public
-  unfolding allT
-  reading-all l =
-      let e : i ≡ s .k = le-antisymm (p .near) l in
-      written-all (p .done) (so-far ∙ ap (λ (j : ℕ). j * s .n) e ∙ sym (r .room)) ∙ ap (λ (j : ℕ). joined j (tOf s public)) e
+    pub reading-all : s .k ≤ i → t ≡ allT s public
+    unfolding allT
+    reading-all l = filling-all (r .room) each p l
 
 -- ---- t_1..t_k are written
 

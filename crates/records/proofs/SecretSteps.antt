@@ -10,8 +10,8 @@ use lib.ListN.{length, getD, take, drop}
 use borrow.Author.Tests.{eq-eqb, ne-eqb, eqb-true}
 use Rattle.whole.specs.Every.{every}
 use Rattle.whole.specs.EveryLaws.{Passing, passing-more, passing-fails, passing-all}
-use Rattle.answers.specs.Tests.{Answered}
-use Rattle.answers.specs.TestLaws.{AllPass, all-passed}
+use Rattle.answers.specs.Tests.{Answered, AllPass}
+use Rattle.answers.specs.TestLaws.{all-passed}
 use Rattle.sets.specs.declared.Numbers.{Numbers}
 use Rattle.sets.specs.Good.{Good}
 use Rattle.sets.specs.Limits.{seedBytes}
@@ -19,7 +19,7 @@ use Rattle.records.specs.Layout.{mark}
 use Rattle.records.specs.Pieces.{standing-kept, standing-mark, standing-copy, standing-take, standing-all}
 use Rattle.records.specs.Secret.{secretRecord, sOf, allE, secretSeedA, secretSeedY, secretG, inByteRange, byteTests, secretTests, readSecretTests, writeSecretTests}
 use Rattle.records.specs.SecretLaws.{s-lent, e-lent}
-use Rattle.records.specs.Asks.{PutsSecret, PutsTail, TakesTail, TakesSecret}
+use Rattle.records.specs.Asks.{SecretPlaces, TailPlaces}
 
 -- ---- the range of secret bytes
 
@@ -49,7 +49,7 @@ bytes-lent set secret e f a = rw (s-lent set secret e f, e-lent set secret e f) 
 -- a record that is read has its length, and so have the outputs
 pub read-takes : {set : Numbers} {secret s e seedA seedY g : List ℕ} {number : ℕ} {done : Bool} → Good set
     → Answered (readSecretTests set secret (length s) (length e) (length seedA) (length seedY) (length g)) number
-    → done ≡ eqb number 0 → done ≡ true → TakesSecret set secret s e seedA seedY g
+    → done ≡ eqb number 0 → done ≡ true → SecretPlaces set secret s e seedA seedY g
 unfolding readSecretTests secretTests byteTests AllPass every
 read-takes good a e h =
     let p = all-passed refl a e h in
@@ -66,8 +66,8 @@ read-takes good a e h =
           };
     }
 
-module _ {set : Numbers} {secret s e seedA seedY g : List ℕ} (p : TakesSecret set secret s e seedA seedY g) where
-  pub takes-tail : TakesTail set secret seedA seedY g
+module _ {set : Numbers} {secret s e seedA seedY g : List ℕ} (p : SecretPlaces set secret s e seedA seedY g) where
+  pub takes-tail : TailPlaces set secret seedA seedY g
   takes-tail =
       record {
         good = p .good;
@@ -86,7 +86,7 @@ module _ {set : Numbers} {secret s e seedA seedY g : List ℕ} (p : TakesSecret 
   unfolding allE
   take-e h f = f ∙ rw (p .lengths .e-long, h)
 
-module _ {set : Numbers} {secret seedA seedY g new : List ℕ} {at : ℕ} (p : TakesTail set secret seedA seedY g) where
+module _ {set : Numbers} {secret seedA seedY g new : List ℕ} {at : ℕ} (p : TailPlaces set secret seedA seedY g) where
   pub take-seedA : at ≡ 2 + set .n + set .k * set .n → new ≡ take (length seedA) (drop at secret) → new ≡ secretSeedA set secret
   unfolding secretSeedA
   take-seedA h f = f ∙ rw (p .seedA-long, h)
@@ -102,7 +102,7 @@ module _ {set : Numbers} {secret seedA seedY g new : List ℕ} {at : ℕ} (p : T
 -- ---- writing
 
 -- seed_a, seed_y and g one after the other
-pub put-tail-is : {set : Numbers} {seedA seedY g old first second third : List ℕ} {at atY atG : ℕ} → PutsTail set seedA seedY g old
+pub put-tail-is : {set : Numbers} {seedA seedY g old first second third : List ℕ} {at atY atG : ℕ} → TailPlaces set old seedA seedY g
     → at ≡ 2 + set .n + set .k * set .n
     → first ≡ take at old ++ (seedA ++ drop (at + length seedA) old)
     → atY ≡ 2 + set .n + set .k * set .n + seedBytes
@@ -117,7 +117,7 @@ put-tail-is {set} {seedA} {seedY} {g} {old} p h a hY b hG c =
     standing-all w₃ (omega (arith, p .long)) ∙ simp append-assoc
 
 -- the mark, s, e and the rest one after the other
-pub put-is : {set : Numbers} {s e seedA seedY g old marks first second third : List ℕ} {at : ℕ} → PutsSecret set s e seedA seedY g old
+pub put-is : {set : Numbers} {s e seedA seedY g old marks first second third : List ℕ} {at : ℕ} → SecretPlaces set old s e seedA seedY g
     → marks ≡ mark set 2 ++ drop 2 old
     → first ≡ take 2 marks ++ (s ++ drop (2 + length s) marks)
     → at ≡ 2 + set .n
@@ -133,7 +133,7 @@ put-is {set} {s} {e} {seedA} {seedY} {g} {old} p a b h c d =
 -- values and a record that pass the tests
 pub write-puts : {set : Numbers} {s e seedA seedY g secret : List ℕ} {number : ℕ} {done : Bool} → Good set
     → Answered (writeSecretTests set s e seedA seedY g (length secret)) number → done ≡ eqb number 0 → done ≡ true
-    → PutsSecret set s e seedA seedY g secret
+    → SecretPlaces set secret s e seedA seedY g
 unfolding writeSecretTests byteTests AllPass every
 write-puts good a e h =
     let p = all-passed refl a e h in

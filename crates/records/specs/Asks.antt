@@ -98,30 +98,16 @@ pub record SecretLengths (set : Numbers) (s e seedA seedY g : List ℕ) : Type 0
   pub seedY-long : length seedY ≡ seedBytes
   pub g-long : length g ≡ digestBytes
 
--- what writing a record from tested values asks
-pub record PutsSecret (set : Numbers) (s e seedA seedY g secret : List ℕ) : Type 0 where
+-- what writing a record from tested values asks, and reading one into its outputs
+pub record SecretPlaces (set : Numbers) (secret s e seedA seedY g : List ℕ) : Type 0 where
   pub good : Good set
+  pub long : length secret ≡ secretBytes set
   pub lengths : SecretLengths set s e seedA seedY g
-  pub long : length secret ≡ secretBytes set
 
--- what writing the seeds and g asks
-pub record PutsTail (set : Numbers) (seedA seedY g secret : List ℕ) : Type 0 where
-  pub good : Good set
-  pub seedA-long : length seedA ≡ seedBytes
-  pub seedY-long : length seedY ≡ seedBytes
-  pub g-long : length g ≡ digestBytes
-  pub long : length secret ≡ secretBytes set
-
--- what reading the seeds and g of a record asks of its outputs
-pub record TakesTail (set : Numbers) (secret seedA seedY g : List ℕ) : Type 0 where
+-- the same for the seeds and g alone
+pub record TailPlaces (set : Numbers) (secret seedA seedY g : List ℕ) : Type 0 where
   pub good : Good set
   pub long : length secret ≡ secretBytes set
   pub seedA-long : length seedA ≡ seedBytes
   pub seedY-long : length seedY ≡ seedBytes
   pub g-long : length g ≡ digestBytes
-
--- what reading a record of the right length asks of its outputs
-pub record TakesSecret (set : Numbers) (secret s e seedA seedY g : List ℕ) : Type 0 where
-  pub good : Good set
-  pub long : length secret ≡ secretBytes set
-  pub lengths : SecretLengths set s e seedA seedY g

@@ -15,10 +15,10 @@ use Rattle.whole.specs.Below.{Below}
 use Rattle.whole.specs.BelowLaws.{below-more, below-part}
 use Rattle.whole.specs.Parts.{part-length, part-piece, part-last, part-part, parts-join, part-second}
 use Rattle.whole.specs.TableLaws.{joined-ext, joined-length, joined-part, joined-parts}
-use Rattle.answers.specs.Tests.{answer}
+use Rattle.answers.specs.Tests.{answer, AllPass}
 use Rattle.whole.specs.Every.{every}
 use Rattle.whole.specs.EveryLaws.{both-first, both-second, every-at, every-all}
-use Rattle.answers.specs.TestLaws.{AllPass, all-pass, passes-all}
+use Rattle.answers.specs.TestLaws.{all-pass, passes-all}
 use Rattle.whole.specs.Rows.{row-fits, row-within}
 use Rattle.packing.specs.Digits.{bytesFor, packed, unpacked}
 use Rattle.packing.specs.Laws.{packed-length, unpacked-length, unpacked-packed, packed-unpacked-whole}
@@ -86,17 +86,9 @@ module _ (s : Numbers) where
   unfolding tOf
   tOf-length public i = unpacked-length (s .«t_bits») (s .n) (stretch (2 + tBytes s * i) (tBytes s) public)
 
-  pub allT-length : (public : List ℕ) → length (allT s public) ≡ s .k * s .n
-  unfolding allT
-  allT-length public = joined-length (s .k) (s .n) (tOf s public) (λ i l. tOf-length public i)
-
   pub allT-polynomial : (public : List ℕ) (i : ℕ) → i < s .k → polynomial (s .n) i (allT s public) ≡ tOf s public i
   unfolding allT
   allT-polynomial public i l = joined-part (s .k) (s .n) i (tOf s public) (λ j r. tOf-length public j) l
-
-  pub seedAOf-length : (public : List ℕ) → length public ≡ publicBytes s → length (seedAOf s public) ≡ seedBytes
-  unfolding seedAOf
-  seedAOf-length public e = part-length (2 + s .k * tBytes s) seedBytes public (omega arith)
 
   -- t_(i + 1) stands in the stretch of all packed t
   stretch-inside : (public : List ℕ) (i : ℕ) → i < s .k

@@ -12,9 +12,9 @@ use lib.ListN.{length, take, drop, length-append}
 use lib.Seq.{take-all}
 use borrow.Author.Tests.{eq-eqb, eqb-true}
 use Rattle.whole.specs.Parts.{part-length, part-piece, part-last, part-second, parts-join}
-use Rattle.answers.specs.Tests.{answer}
+use Rattle.answers.specs.Tests.{answer, AllPass}
 use Rattle.whole.specs.Every.{every}
-use Rattle.answers.specs.TestLaws.{AllPass, all-pass, passes-all}
+use Rattle.answers.specs.TestLaws.{all-pass, passes-all}
 use Rattle.sets.specs.declared.Numbers.{Numbers}
 use Rattle.records.specs.Layout.{mark, marked, stretch, secretBytes}
 use Rattle.sets.specs.Limits.{seedBytes, digestBytes}

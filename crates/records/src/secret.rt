@@ -14,7 +14,7 @@ ghost use Rattle.sets.specs.Limits.{seedBytes};
 ghost use Rattle.sets.specs.Good.{Good};
 ghost use Rattle.records.specs.Layout.{secretBytes};
 ghost use Rattle.records.specs.Secret.{secretRecord, inByteRange, byteTests, secretTests, readSecretTests, writeSecretTests};
-ghost use Rattle.records.specs.Asks.{PutsSecret, PutsTail, TakesSecret, TakesTail};
+ghost use Rattle.records.specs.Asks.{SecretPlaces, TailPlaces};
 ghost use Rattle.records.specs.Promises.{TookTail, TookSecret, WritesSecret, ReadsSecret};
 
 // Where e_1 starts: after the mark and s.
@@ -86,7 +86,7 @@ fn test_bytes(s: &[u8], e: &[u8]) -> Answer
 
 // Writes seed_a, seed_y and g to the end of the record. What stands before them stays.
 fn put_tail(set: Numbers, seed_a: &[u8], seed_y: &[u8], g: &[u8], secret: &mut [u8])
-    requires { ⌜ PutsTail set (now «seed_a») (now «seed_y») (now g) (now secret) ⌝ }
+    requires { ⌜ TailPlaces set (now secret) (now «seed_a») (now «seed_y») (now g) ⌝ }
     ensures { λ _. ⌜ now (secret .exit) ≡ take (2 + set .n + set .k * set .n) (now (secret .entry)) ++ (now («seed_a» .entry) ++ (now («seed_y» .entry) ++ now (g .entry))) ⌝ }
 {
     pieces::copy_at(seed_a, secret, seed_a_start(set));
@@ -104,7 +104,7 @@ pub fn put(
     g: &[u8],
     secret: &mut [u8],
 )
-    requires { ⌜ PutsSecret set (now s) (now e) (now «seed_a») (now «seed_y») (now g) (now secret) ⌝ }
+    requires { ⌜ SecretPlaces set (now secret) (now s) (now e) (now «seed_a») (now «seed_y») (now g) ⌝ }
     ensures { λ _. ⌜ now (secret .exit) ≡ secretRecord set (now (s .entry)) (now (e .entry)) (now («seed_a» .entry)) (now («seed_y» .entry)) (now (g .entry)) ⌝ }
 {
     pieces::write_mark(set, 2, secret);
@@ -216,7 +216,7 @@ fn test_read(
 
 // seed_a, seed_y and g of the record.
 fn take_tail(set: Numbers, secret: &[u8], seed_a: &mut [u8], seed_y: &mut [u8], g: &mut [u8])
-    requires { ⌜ TakesTail set (now secret) (now «seed_a») (now «seed_y») (now g) ⌝ }
+    requires { ⌜ TailPlaces set (now secret) (now «seed_a») (now «seed_y») (now g) ⌝ }
     ensures { λ _. ⌜ TookTail set (now (secret .entry)) (now («seed_a» .exit)) (now («seed_y» .exit)) (now (g .exit)) ⌝ }
 {
     pieces::copy_out(secret, seed_a_start(set), seed_a);
@@ -234,7 +234,7 @@ fn take_out(
     seed_y: &mut [u8],
     g: &mut [u8],
 )
-    requires { ⌜ TakesSecret set (now secret) (now s) (now e) (now «seed_a») (now «seed_y») (now g) ⌝ }
+    requires { ⌜ SecretPlaces set (now secret) (now s) (now e) (now «seed_a») (now «seed_y») (now g) ⌝ }
     ensures { λ _. ⌜ TookSecret set (now (secret .entry)) (now (s .exit)) (now (e .exit)) (now («seed_a» .exit)) (now («seed_y» .exit)) (now (g .exit)) ⌝ }
 {
     pieces::copy_out(secret, 2, s);

@@ -6,7 +6,6 @@ ghost use lib.ListN.{length};
 ghost use lib.IntN.{pos, natAbs, _*ℤ_};
 ghost use Rattle.whole.specs.Residue.{residue};
 ghost use Rattle.whole.specs.Table.{table};
-ghost use Rattle.whole.specs.Twos.{signed};
 ghost use Rattle.ring.specs.Product.{turn, mul};
 ghost use Rattle.ring.specs.Lists.{naturals, signedBytes, residues};
 ghost use Rattle.ring.specs.Sparse.{sparse, turns, Sign};

@@ -17,12 +17,13 @@ use Rattle.shake.specs.Sponge.{squeezed, afterSqueeze}
 use Rattle.shake.specs.Pieces.{squeezed-add, length-squeezed}
 use Rattle.sampling.specs.Candidates.{held, candidates}
 use Rattle.sampling.specs.CandidatesLaws.{candidates-length, candidates-append}
-use Rattle.sampling.specs.Values.{values}
-use Rattle.sampling.specs.ValuesLaws.{part, lessOf, part-none, part-most, part-short, part-enough, values-part, values-append}
+use Rattle.sampling.specs.Values.{values, lessOf}
+use Rattle.sampling.specs.ValuesLaws.{part-none, part-most, part-short, part-enough, values-part, values-append}
+use Rattle.sampling.specs.Stretches.{part, partPositions}
 use Rattle.sampling.specs.Stored.{Stored, stored-none, stored-append, stored-length, stored-front, stored-whole, StoredDrawn, stored-drawn-none, stored-drawn-append}
 use Rattle.sampling.specs.Positions.{Drawn, positions, placesOf, positionsOf, signsOf, drawnCandidates, AreDrawn}
 use Rattle.sampling.specs.Asks.{ValuesStretch, Less, LessStretch, Placing, PositionsStretch}
-use Rattle.sampling.specs.PositionsLaws.{partPositions, part-positions-none, part-positions-most, part-positions-enough, positions-part, positions-append, drawn-length, drawn-append}
+use Rattle.sampling.specs.PositionsLaws.{part-positions-none, part-positions-most, part-positions-enough, positions-part, positions-append, drawn-length, drawn-append}
 use Rattle.sampling.proofs.ValueSteps.{Kept}
 
 -- ---- a buffer whose first n bytes are squeezed

@@ -15,10 +15,11 @@ use Rattle.answers.specs.OutputLaws.{made, kept}
 use Rattle.sets.specs.declared.Numbers.{Numbers}
 use Rattle.sampling.specs.Candidates.{held, candidates}
 use Rattle.sampling.specs.CandidatesLaws.{candidates-length}
-use Rattle.sampling.specs.Values.{values}
+use Rattle.sampling.specs.Values.{values, lessOf}
 use Rattle.sampling.specs.Positions.{Drawn, positions, drawnCandidates}
-use Rattle.sampling.specs.ValuesLaws.{part, lessOf, values-part, values-length}
-use Rattle.sampling.specs.PositionsLaws.{partPositions, positions-part, positions-length, drawn-length}
+use Rattle.sampling.specs.ValuesLaws.{values-part, values-length}
+use Rattle.sampling.specs.Stretches.{part, partPositions}
+use Rattle.sampling.specs.PositionsLaws.{positions-part, positions-length, drawn-length}
 use Rattle.sampling.specs.Stored.{Stored, StoredDrawn, stored-whole}
 use Rattle.sampling.specs.Lent.{lentA, lentY, testsEnc, lentEnc}
 use Rattle.sampling.specs.Promises.{TakesA, TakesY, TakesPositions}

@@ -24,7 +24,8 @@ use Rattle.sampling.specs.Positions.{Drawn, isIn, free, signOf, position
 use Rattle.sampling.specs.Promises.{Upward}
 use Rattle.sampling.specs.FreeLaws.{free-inside, free-here}
 use Rattle.sampling.specs.Stored.{StoredDrawn, stored-length, stored-front, stored-drawn-none, stored-drawn-one, stored-drawn-append}
-use Rattle.sampling.specs.PositionsLaws.{drawnAs, partPositions, placed, part-positions-none, part-positions-fresh, part-positions-repeated, part-positions-moved, part-positions-most, part-positions-append, drawn-length, drawn-at}
+use Rattle.sampling.specs.PositionsLaws.{part-positions-none, part-positions-fresh, part-positions-repeated, part-positions-moved, part-positions-most, part-positions-append, drawn-length, drawn-at}
+use Rattle.sampling.specs.Stretches.{drawnAs, partPositions, placed}
 use Rattle.sampling.proofs.CandidateSteps.{held-room}
 
 -- ---- the sign

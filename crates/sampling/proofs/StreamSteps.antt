@@ -18,8 +18,7 @@ use Rattle.sets.specs.GoodLaws.{y-small}
 use Rattle.sets.specs.Limits.{seedBytes, digestBytes}
 use Rattle.sets.specs.Marks.{fresh}
 use Rattle.sampling.specs.Candidates.{candidates}
-use Rattle.sampling.specs.Values.{values}
-use Rattle.sampling.specs.ValuesLaws.{lessOf}
+use Rattle.sampling.specs.Values.{values, lessOf}
 use Rattle.sampling.specs.Positions.{placesOf, AreDrawn}
 use Rattle.sampling.specs.Streams.{twoBytes, yOf, randOf, messageDigest, keyDigest, encOf}
 use Rattle.sampling.specs.SpongeLaws.{stream-squeezed, two-pieces, three-squeezed, two-below}

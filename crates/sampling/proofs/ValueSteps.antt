@@ -13,7 +13,9 @@ use lib.Pow.{pow-pos}
 use Rattle.sampling.specs.Candidates.{held, piece, candidates}
 use Rattle.sampling.specs.CandidatesLaws.{candidates-length, candidates-at}
 use Rattle.sampling.specs.Stored.{Stored, stored-none, stored-one, stored-append, stored-length}
-use Rattle.sampling.specs.ValuesLaws.{part, lessOf, part-none, part-most, part-short, part-in, part-skip, part-last, part-append}
+use Rattle.sampling.specs.ValuesLaws.{part-none, part-most, part-short, part-in, part-skip, part-last, part-append}
+use Rattle.sampling.specs.Stretches.{part}
+use Rattle.sampling.specs.Values.{lessOf}
 
 -- ---- one candidate, with `left` after it
 

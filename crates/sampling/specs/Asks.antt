@@ -2,6 +2,9 @@
 use mathlib.Core.Path.{_≡_}
 use mathlib.Core.List.{List}
 use Prim.Native.Nat.{ℕ, _+_, _*_, _^_, _≤_, _<_, min}
+use lib.IntN.{ℤ}
+use lib.ListN.{length}
+use Rattle.ring.specs.Sparse.{Signed}
 use Rattle.sets.specs.declared.Numbers.{Numbers}
 use Rattle.sets.specs.Good.{Good}
 use Rattle.sampling.specs.declared.drawn.DrawA.{DrawA}
@@ -98,3 +101,10 @@ pub record NextA (s : Numbers) (d : DrawA) (places : ℕ) : Type 0 where
   pub valid : ValidA d
   pub needed : s .n ≤ d .need
   pub long : places ≡ s .n
+
+-- ---- what is drawn, where it is multiplied
+
+-- c, as h positions below n with their signs
+pub record Terms (set : Numbers) (ps : List ℕ) (ss : List ℤ) : Type 0 where
+  pub signed : Signed (set .n) ps ss
+  pub few : length ps ≡ set .h

@@ -8,9 +8,8 @@ use lib.IntN.{ℤ}
 use Rattle.answers.specs.Tests.{Test, _orElse_}
 use Rattle.sets.specs.declared.Numbers.{Numbers}
 use Rattle.sampling.specs.Candidates.{held, candidates}
-use Rattle.sampling.specs.Values.{values}
-use Rattle.sampling.specs.Positions.{Drawn, positions, drawnCandidates}
-use Rattle.sampling.specs.Streams.{lessB}
+use Rattle.sampling.specs.Values.{values, lessOf}
+use Rattle.sampling.specs.Positions.{Drawn, placesOf}
 
 -- ---- values for a: candidates of 4 bytes, low t_bits bits, range q
 
@@ -26,7 +25,7 @@ abbrev pub testsY : List ℕ → ℕ → List Test
 testsY stream need = (leb need (held 3 stream) orElse 1) ∷ []
 
 unfoldable pub lentY : Numbers → List ℕ → ℕ → List ℤ
-lentY s stream need = map (lessB s) (values (2 * s .b + 1) need (candidates 3 (s .«z_bits») stream))
+lentY s stream need = map (lessOf (s .b)) (values (2 * s .b + 1) need (candidates 3 (s .«z_bits») stream))
 
 -- ---- positions with signs: candidates of 3 bytes, low position_bits bits; no more than n are needed, and as many signs
 
@@ -34,4 +33,4 @@ abbrev pub testsEnc : Numbers → List ℕ → ℕ → ℕ → List Test
 testsEnc s stream need signs = (eqb signs need orElse 1) ∷ (leb need (held 3 stream) orElse 1) ∷ (leb need (s .n) orElse 1) ∷ []
 
 unfoldable pub lentEnc : Numbers → List ℕ → ℕ → List Drawn
-lentEnc s stream need = positions (s .n) need [] (drawnCandidates (s .«position_bits») stream)
+lentEnc s stream need = placesOf (s .n) (s .«position_bits») need stream

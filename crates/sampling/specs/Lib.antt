@@ -1,6 +1,7 @@
 pub mod Candidates
 pub mod Values
 pub mod Positions
+pub mod Stretches
 pub mod Streams
 pub mod Lent
 pub mod DrawA

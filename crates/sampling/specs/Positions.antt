@@ -49,10 +49,14 @@ positions n (suc need) ps (c ∷ cs) =
 abbrev pub signOf : ℕ → ℤ
 signOf byte = cond (eqb (byte % 2) 1) (negsuc 0) (pos 1)
 
--- the candidates of a stream, 3 bytes each: the low `bits` bits of the first two bytes are a position, the third gives the sign
+-- a candidate of 3 bytes, as one number: the low `bits` bits of the first two bytes are a position, the third gives the sign
+abbrev pub drawnOf : ℕ → ℕ → Drawn
+drawnOf bits p = record { position = p % 2 ^ bits; sign = signOf (p / 65536) }
+
+-- the candidates of a stream
 unfoldable pub drawnCandidates : ℕ → List ℕ → List Drawn
 drawnCandidates bits stream =
-    table (held 3 stream) (λ j. record { position = piece 3 stream j % 2 ^ bits; sign = signOf (piece 3 stream j / 65536) })
+    table (held 3 stream) (λ j. drawnOf bits (piece 3 stream j))
 
 -- the positions with signs of a stream's candidates
 abbrev pub placesOf : ℕ → ℕ → ℕ → List ℕ → List Drawn

@@ -5,7 +5,7 @@
 --     positions-part                              the positions of all candidates are the part with none after it
 --     positions-length                            as many as are needed
 --     positions-inside, positions-signs           each below n, with the sign of a candidate
---     positions-apart, positions-distinct         none was taken before, and none comes twice
+--     positions-distinct                          none comes twice
 --     positions-append                            the positions of a stretch, then those of the candidates after it
 --     drawn-length, drawn-at, drawn-inside, drawn-signs, drawn-append     the candidates of a stream
 -- Assumes nothing.
@@ -28,31 +28,11 @@ use Rattle.whole.specs.Table.{table}
 use Rattle.whole.specs.TableLaws.{length-table, getD-table, map-table}
 use Rattle.sampling.specs.Candidates.{emit, held, piece}
 use Rattle.sampling.specs.CandidatesLaws.{pieces-append}
-use Rattle.sampling.specs.Positions.{Drawn, isIn, free, takesPosition, positions, positionsOf, signsOf, signOf, drawnCandidates}
+use Rattle.sampling.specs.Positions.{Drawn, isIn, free, takesPosition, positions, positionsOf, signsOf, signOf, drawnOf, drawnCandidates}
+use Rattle.sampling.specs.Stretches.{placed, partPositions}
 use Rattle.sampling.specs.FreeLaws.{Distinct, in-here, in-cases, in-moved, not-both, or-right, free-inside, free-is-free, free-here, free-same, distinct-none, distinct-cons}
 
 -- ---- a stretch
-
--- a position with its sign
-abbrev pub drawnAs : ℕ → ℤ → Drawn
-drawnAs p s = record { position = p; sign = s }
-
--- candidate c at the next free position
-abbrev pub placed : ℕ → List ℕ → Drawn → Drawn
-placed n ps c = record { position = free n n (c .position) ps; sign = c .sign }
-
--- the positions with signs taken of the candidates cs, where `later` candidates follow them, `need` are needed and those of ps are
--- taken already
-unfoldable pub partPositions : ℕ → ℕ → ℕ → List ℕ → List Drawn → List Drawn
-partPositions n need later ps [] = []
-partPositions n zero later ps (c ∷ cs) = []
-partPositions n (suc need) later ps (c ∷ cs) =
-    emit (takesPosition (suc need) (length cs + later) (c .position) ps) (placed n ps c)
-    (partPositions n
-    (cond (takesPosition (suc need) (length cs + later) (c .position) ps) need (suc need))
-    later
-    (cond (takesPosition (suc need) (length cs + later) (c .position) ps) (free n n (c .position) ps ∷ ps) ps)
-    cs)
 
 pub part-positions-none : (n later : ℕ) (ps : List ℕ) (cs : List Drawn) → partPositions n 0 later ps cs ≡ []
 unfolding partPositions
@@ -265,10 +245,6 @@ pub positions-signs : (P : ℤ → Type 0) (n need : ℕ) (ps : List ℕ) (cs : 
     → let new = positions n need ps cs in (i : ℕ) → i < length (signsOf new) → P (getD (signsOf new) i (pos 0))
 positions-signs P n need ps cs = rw (positions-part n need ps cs) (part-positions-signs P n need 0 ps cs)
 
-pub positions-apart : (n need : ℕ) (ps : List ℕ) (cs : List Drawn) → Below n (positionsOf cs) → need + length ps ≤ n
-    → (x : ℕ) → isIn x (positionsOf (positions n need ps cs)) ≡ true → isIn x ps ≡ false
-positions-apart n need ps cs = rw (positions-part n need ps cs) (part-positions-apart n need 0 ps cs)
-
 pub positions-distinct : (n need : ℕ) (ps : List ℕ) (cs : List Drawn) → Below n (positionsOf cs) → need + length ps ≤ n
     → Distinct (positionsOf (positions n need ps cs))
 positions-distinct n need ps cs = rw (positions-part n need ps cs) (part-positions-distinct n need 0 ps cs)
@@ -281,10 +257,6 @@ positions-append n need ps cs ds =
     ∙ rw (add-zero (length ds), positions-part n (need - length (partPositions n need (length ds) ps cs)) (ps ++ positionsOf (partPositions n need (length ds) ps cs)) ds)
 
 -- ---- candidates of a stream
-
--- what a piece of 3 bytes stands for
-abbrev pub drawnOf : ℕ → ℕ → Drawn
-drawnOf bits p = record { position = p % 2 ^ bits; sign = signOf (p / 65536) }
 
 pub drawn-length : (bits : ℕ) (stream : List ℕ) → length (drawnCandidates bits stream) ≡ held 3 stream
 unfolding drawnCandidates

@@ -3,7 +3,7 @@
 -- Assumes nothing: these are definitions.
 use mathlib.Core.List.{List, [], _∷_, _++_, map}
 use Prim.Native.Nat.{ℕ, _+_, _*_, _/_, _%_}
-use lib.IntN.{ℤ, pos, _-ℤ_}
+use lib.IntN.{ℤ, pos}
 use lib.ListN.{take, drop}
 use Rattle.rounding.specs.Parts.{high}
 use Rattle.shake.specs.Shake256.{shake256}
@@ -13,8 +13,8 @@ use Rattle.sets.specs.declared.Numbers.{Numbers}
 use Rattle.sets.specs.Marks.{streamMark}
 use Rattle.sets.specs.Limits.{seedBytes, digestBytes}
 use Rattle.sampling.specs.Candidates.{candidates}
-use Rattle.sampling.specs.Values.{values}
-use Rattle.sampling.specs.Positions.{Drawn, positions, drawnCandidates}
+use Rattle.sampling.specs.Values.{values, lessOf}
+use Rattle.sampling.specs.Positions.{Drawn, placesOf}
 
 -- the mark of stream j, 1 to 7: 53 11 to 53 17 in set I
 abbrev pub mark : Numbers → ℕ → List ℕ
@@ -39,13 +39,9 @@ aOf s seedA i = take (s .n) (drop (s .n * i) (allA s seedA))
 
 -- ---- 2: y from rand and the counter: 2n candidates of 3 bytes, range 2B + 1, each value less B
 
--- a value drawn, less B
-abbrev pub lessB : Numbers → ℕ → ℤ
-lessB s v = pos v -ℤ pos (s .b)
-
 unfoldable pub yOf : Numbers → List ℕ → ℕ → List ℤ
 yOf s rand counter =
-    map (lessB s) (values (2 * s .b + 1) (s .n) (candidates 3 (s .«z_bits») (stream s 2 (rand ++ twoBytes counter) (3 * (2 * s .n)))))
+    map (lessOf (s .b)) (values (2 * s .b + 1) (s .n) (candidates 3 (s .«z_bits») (stream s 2 (rand ++ twoBytes counter) (3 * (2 * s .n)))))
 
 -- ---- 3 to 6: digests
 
@@ -61,9 +57,13 @@ messageDigest s message = stream s 4 message digestBytes
 unfoldable pub keyDigest : Numbers → List ℕ → List ℕ
 keyDigest s packedT = stream s 5 packedT digestBytes
 
+-- the high parts of one polynomial
+abbrev pub highParts : Numbers → List ℕ → List ℤ
+highParts set v = map (λ x. high (set .q) (set .d) (pos x)) v
+
 -- what H takes first: the high parts of k polynomials, i then coefficient: the signer's v_1..v_k, the receiver's w_1..w_k
 unfoldable pub highsOf : Numbers → (ℕ → List ℕ) → List ℤ
-highsOf set v = joined (set .k) (λ i. map (λ x. high (set .q) (set .d) (pos x)) (v i))
+highsOf set v = joined (set .k) (λ i. highParts set (v i))
 
 -- H: c' from the high parts, one signed byte each, i then coefficient, G of the message, and g
 unfoldable pub challenge : Numbers → List ℤ → List ℕ → List ℕ → List ℕ
@@ -72,4 +72,4 @@ challenge s highs digest g = stream s 6 (map (twos 8) highs ++ digest ++ g) seed
 -- ---- 7: Enc: h positions with signs from c', 256 candidates of 3 bytes
 
 unfoldable pub encOf : Numbers → List ℕ → List Drawn
-encOf s c′ = positions (s .n) (s .h) [] (drawnCandidates (s .«position_bits») (stream s 7 c′ (3 * 256)))
+encOf s c′ = placesOf (s .n) (s .«position_bits») (s .h) (stream s 7 c′ (3 * 256))

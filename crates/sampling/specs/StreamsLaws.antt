@@ -1,34 +1,35 @@
 -- What is drawn from the streams, for every set of numbers that is good:
---     shake-length, shake-below           n bytes of SHAKE256 are n, each below 256
+--     shake-length                        n bytes of SHAKE256 are n
 --     allA-length, allA-below             a_1..a_k together are k · n values below q
---     aOf-length, aOf-below               each a_i is n values below q
+--     aOf-length                          each a_i is n values
 --     yOf-length, yOf-size                y is n values, each at most b in size
 --     encOf-length, encOf-signed, encOf-distinct   c is h different positions below n, each with a sign +1 or −1
+--     enc-terms                           the same of the two lists that hold it
 --     encOf-small, encOf-total            as a polynomial it has at most h entries ±1, and 0 elsewhere
 -- Assumes nothing.
 use mathlib.Core.Path.{_≡_, sym, ap, _∙_, subst}
 use mathlib.Core.List.{List, [], _∷_, _++_, map}
 use Prim.Native.Nat.{ℕ, zero, suc, _+_, _*_, _/_, _^_, _≤_, _<_, zero-le}
-use native.Mathlib.Nat.{mod-lt, mul-div-right}
+use native.Mathlib.Nat.{mul-div-right}
 use native.Mathlib.Omega.{arith}
-use lib.IntN.{pos, natAbs, _-ℤ_}
+use lib.IntN.{ℤ, pos, natAbs, _-ℤ_}
 use lib.ListN.{length, getD, length-map}
 use Rattle.whole.specs.Int.{minus-is, abs-le-from}
 use Rattle.whole.specs.Below.{Below}
-use Rattle.whole.specs.BelowLaws.{below-tail, below-table, below-more, below-part}
+use Rattle.whole.specs.BelowLaws.{below-tail, below-more}
 use Rattle.whole.specs.Sum.{total}
 use Rattle.whole.specs.TableLaws.{length-table}
 use Rattle.whole.specs.Parts.{part-length}
 use Rattle.whole.specs.Rows.{row-within}
-use Rattle.shake.specs.Sponge.{byteAt}
-use Rattle.shake.specs.Shake256.{shake256, outputByte}
+use Rattle.shake.specs.Shake256.{shake256}
 use Rattle.ring.specs.Sparse.{Signed, Sign}
 use Rattle.sets.specs.declared.Numbers.{Numbers}
 use Rattle.sets.specs.Good.{Good}
 use Rattle.sampling.specs.Candidates.{held, candidates}
-use Rattle.sampling.specs.Values.{values}
-use Rattle.sampling.specs.Positions.{Drawn, drawnCandidates, positionsOf, signsOf, polynomialOf}
-use Rattle.sampling.specs.Streams.{mark, stream, twoBytes, allA, aOf, lessB, yOf, encOf}
+use Rattle.sampling.specs.Values.{values, lessOf}
+use Rattle.sampling.specs.Positions.{Drawn, drawnCandidates, positionsOf, signsOf, AreDrawn, polynomialOf}
+use Rattle.sampling.specs.Streams.{mark, stream, twoBytes, allA, aOf, yOf, encOf}
+use Rattle.sampling.specs.Asks.{Terms}
 use Rattle.sampling.specs.CandidatesLaws.{candidates-length, candidates-below}
 use Rattle.sampling.specs.ValuesLaws.{values-length, values-below}
 use Rattle.sampling.specs.FreeLaws.{Distinct}
@@ -40,10 +41,6 @@ use Rattle.sampling.specs.SparseLaws.{sparse-small, sparse-total}
 pub shake-length : (message : List ℕ) (n : ℕ) → length (shake256 message n) ≡ n
 unfolding shake256
 shake-length message n = length-table n _
-
-pub shake-below : (message : List ℕ) (n : ℕ) → Below 256 (shake256 message n)
-unfolding shake256 outputByte byteAt
-shake-below message n = below-table 256 n _ (λ k l. mod-lt _ (omega arith))
 
 -- a stream holds as many candidates as it was made for
 held-stream : (size m : ℕ) (message : List ℕ) → 0 < size → held size (shake256 message (size * m)) ≡ m
@@ -91,16 +88,12 @@ module _ (s : Numbers) (g : Good s) where
   aOf-length seedA i h =
       part-length (s .n * i) (s .n) (allA s seedA) (row-within (s .n) (s .k) i (allA s seedA) (allA-length seedA) h)
 
-  pub aOf-below : (seedA : List ℕ) (i : ℕ) → Below (s .q) (aOf s seedA i)
-  unfolding aOf
-  aOf-below seedA i = below-part (s .q) (s .n * i) (s .n) (allA s seedA) (allA-below seedA)
-
   -- ---- y
 
   pub yOf-length : (rand : List ℕ) (counter : ℕ) → length (yOf s rand counter) ≡ s .n
   unfolding yOf
   yOf-length rand counter =
-      length-map (drawnY s rand counter) (lessB s)
+      length-map (drawnY s rand counter) (lessOf (s .b))
       ∙ drawn-enough (2 * s .b + 1) (s .n) 3 (s .«z_bits») (2 * s .n) (mark s 2 ++ (rand ++ twoBytes counter)) (omega arith) (omega arith)
 
   -- past its end y reads 0
@@ -132,6 +125,12 @@ module _ (s : Numbers) (g : Good s) where
   pub encOf-distinct : (c′ : List ℕ) → Distinct (positionsOf (encOf s c′))
   unfolding encOf
   encOf-distinct c′ = positions-distinct (s .n) (s .h) [] (drawnEnc s c′) (drawn-all-inside c′) (omega (arith, g .h-inside))
+
+  -- as two lists
+  pub enc-terms : (c′ : List ℕ) {ps : List ℕ} {ss : List ℤ} → AreDrawn (encOf s c′) ps ss → Terms s ps ss
+  enc-terms c′ d =
+      rw (d .places-are, d .signs-are)
+      (record { signed = encOf-signed c′; few = length-map (encOf s c′) (λ (t : Drawn). t .position) ∙ encOf-length c′ })
 
   pub encOf-small : (c′ : List ℕ) (i : ℕ) → natAbs (polynomialOf (encOf s c′) i) ≤ 1
   encOf-small c′ = sparse-small (s .n) (positionsOf (encOf s c′)) (signsOf (encOf s c′)) (encOf-signed c′) (encOf-distinct c′)

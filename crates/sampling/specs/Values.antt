@@ -7,6 +7,7 @@ use mathlib.Core.Bool.{Bool, cond, _||_}
 use mathlib.Core.List.{List, [], _∷_}
 use Prim.Native.Nat.{ℕ, zero, suc, _-_}
 use lib.Dec.{ltb}
+use lib.IntN.{ℤ, pos, _-ℤ_}
 use lib.ListN.{length}
 use Rattle.sampling.specs.Candidates.{emit}
 
@@ -25,6 +26,10 @@ values range zero (c ∷ cs) = []
 values range (suc need) (c ∷ cs) =
     emit (takesValue range (suc need) (length cs) c) (reduced range c)
     (values range (cond (takesValue range (suc need) (length cs) c) need (suc need)) cs)
+
+-- a value less b
+abbrev pub lessOf : ℕ → ℕ → ℤ
+lessOf b v = pos v -ℤ pos b
 
 -- document 01's sum 10: range 5, three needed. It stands with the rule, so that a wrong count is refused here.
 pub sum-10 : values 5 3 (6 ∷ 7 ∷ 2 ∷ 5 ∷ 1 ∷ []) ≡ 2 ∷ 0 ∷ 1 ∷ []

@@ -15,25 +15,13 @@ use Prim.Native.Nat.{ℕ, zero, suc, _+_, _-_, _*_, _≤_, _<_, zero-le, suc-le-
 use native.Mathlib.Nat.{le-refl, le-antisymm, add-zero, add-assoc, suc-sub-suc, sub-zero}
 use native.Mathlib.Omega.{arith}
 use lib.Dec.{ltb}
-use lib.IntN.{ℤ, pos, _-ℤ_}
 use lib.ListN.{length, length-append}
 use borrow.Author.Tests.{lt-ltb, le-ltb, ltb-true, ltb-false}
 use Rattle.whole.specs.Below.{Below}
 use Rattle.whole.specs.BelowLaws.{below-cons, below-tail, below-none}
 use Rattle.sampling.specs.Candidates.{emit}
 use Rattle.sampling.specs.Values.{takesValue, reduced, values}
-
--- the values taken of the candidates cs, where `later` candidates follow them and `need` values are needed
-unfoldable pub part : ℕ → ℕ → ℕ → List ℕ → List ℕ
-part range need later [] = []
-part range zero later (c ∷ cs) = []
-part range (suc need) later (c ∷ cs) =
-    emit (takesValue range (suc need) (length cs + later) c) (reduced range c)
-    (part range (cond (takesValue range (suc need) (length cs + later) c) need (suc need)) later cs)
-
--- a value less b
-abbrev pub lessOf : ℕ → ℕ → ℤ
-lessOf b v = pos v -ℤ pos b
+use Rattle.sampling.specs.Stretches.{part}
 
 -- ---- one candidate
 

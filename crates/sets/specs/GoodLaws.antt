@@ -1,6 +1,6 @@
 -- What the conditions on a set's numbers give.
 --     q-some                   there are residues
---     n-some, n-few            how many coefficients a polynomial has at least and at most
+--     n-few                    how many coefficients a polynomial has at most
 --     z-narrow, y-small        z and y + s c fit a word
 --     row-few, row-word, row-inside, start-word, end-word, offset-word, row-ends
 --                                  how many k polynomials in a row have at most, so that every place among them fits a word
@@ -11,7 +11,7 @@ use Prim.Native.Nat.{ℕ, _+_, _*_, _≤_, _<_, _^_}
 use native.Mathlib.Nat.{mul-le-mul}
 use native.Mathlib.Omega.{arith}
 use lib.ListN.{length}
-use lib.Pow.{pow-pos, pow-mono}
+use lib.Pow.{pow-mono}
 use mir.Syntax.{w64}
 use mir.Val.{Fits}
 use Rattle.whole.specs.Rows.{row-fits, row-within}
@@ -21,9 +21,6 @@ use Rattle.sets.specs.Good.{Good}
 module _ {set : Numbers} (good : Good set) where
   pub q-some : 0 < set .q
   q-some = omega (arith, good .q-large)
-
-  pub n-some : 0 < set .n
-  n-some = rw (good .n-power) (pow-pos (set .«position_bits»))
 
   pub n-few : set .n ≤ 65536
   n-few = rw (good .n-power) (pow-mono (good .position-fits))

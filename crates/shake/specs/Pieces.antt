@@ -1,7 +1,6 @@
 -- Absorbing and squeezing in pieces, from any state:
 --     absorbed-absorbed   absorbing xs and then ys is absorbing xs ++ ys
 --     squeezed-add        squeezing m + n bytes is squeezing m and then n
---     afterSqueeze-add    and so is the state after them
 --     length-squeezed     n squeezed bytes are n
 --     below-squeezed      each of them is below 256
 --     absorb-pieces       absorbing several pieces is absorbing their concatenation
@@ -124,10 +123,6 @@ again m s = squeezable-is (stateAfter m (squeezable s)) (sound-after m (squeezab
 pub squeezed-add : (m n : ℕ) (s : Sponge) → squeezed (m + n) s ≡ squeezed m s ++ squeezed n (afterSqueeze m s)
 unfolding squeezed
 squeezed-add m n s = rw (again m s) (bytesOf-add m n (squeezable s))
-
-pub afterSqueeze-add : (m n : ℕ) (s : Sponge) → afterSqueeze (m + n) s ≡ afterSqueeze n (afterSqueeze m s)
-unfolding afterSqueeze
-afterSqueeze-add m n s = rw (again m s) (stateAfter-add m n (squeezable s))
 
 pub length-bytesOf : (n : ℕ) (s : Sponge) → length (bytesOf n s) ≡ n
 unfolding bytesOf

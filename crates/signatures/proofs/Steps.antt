@@ -16,8 +16,8 @@ use Rattle.whole.specs.Written.{written-length, lent-rest, put-rest}
 use Rattle.whole.specs.Every.{every}
 use Rattle.whole.specs.Twos.{signed, twos}
 use Rattle.whole.specs.TwosLaws.{twos-all-below}
-use Rattle.answers.specs.Tests.{Answered}
-use Rattle.answers.specs.TestLaws.{AllPass, all-passed}
+use Rattle.answers.specs.Tests.{Answered, AllPass}
+use Rattle.answers.specs.TestLaws.{all-passed}
 use Rattle.rounding.specs.Tests.{zPasses}
 use Rattle.packing.specs.Digits.{bytesFor, packed, unpacked, Packs, Unpacks}
 use Rattle.packing.specs.Laws.{packed-length, unpacked-length, unpacked-below}

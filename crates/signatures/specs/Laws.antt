@@ -19,8 +19,8 @@ use Rattle.whole.specs.Twos.{InBits, signed, twos}
 use Rattle.whole.specs.TwosLaws.{twos-all-below}
 use Rattle.whole.specs.Every.{every}
 use Rattle.whole.specs.EveryLaws.{every-at}
-use Rattle.answers.specs.Tests.{answer}
-use Rattle.answers.specs.TestLaws.{AllPass, all-pass, passes-all}
+use Rattle.answers.specs.Tests.{answer, AllPass}
+use Rattle.answers.specs.TestLaws.{all-pass, passes-all}
 use Rattle.rounding.specs.Tests.{zPasses}
 use Rattle.packing.specs.Digits.{bytesFor, packed, unpacked}
 use Rattle.packing.specs.Laws.{packed-length, unpacked-length, unpacked-below, unpacked-packed, packed-unpacked-whole}
@@ -65,10 +65,6 @@ module _ (s : Numbers) where
   zOf-length signature =
       length-map (unpacked (s .«z_bits») (s .n) (stretch 2 (zBytes s) signature)) (signed (s .«z_bits»))
       ∙ unpacked-length (s .«z_bits») (s .n) (stretch 2 (zBytes s) signature)
-
-  pub challengeOf-length : (signature : List ℕ) → length signature ≡ signatureBytes s → length (challengeOf s signature) ≡ seedBytes
-  unfolding challengeOf
-  challengeOf-length signature e = part-length (2 + zBytes s) seedBytes signature (omega arith)
 
 -- ---- what is written reads back
 

@@ -8,8 +8,8 @@ use lib.Dec.{eqb}
 use lib.ListN.{length, take, drop}
 use borrow.Author.Tests.{eqb-true, eqb-false, leb-true, not-true, not-false}
 use Rattle.whole.specs.Every.{every}
-use Rattle.answers.specs.Tests.{answer, Answered}
-use Rattle.answers.specs.TestLaws.{AllPass, all-passed}
+use Rattle.answers.specs.Tests.{answer, Answered, AllPass}
+use Rattle.answers.specs.TestLaws.{all-passed}
 use Rattle.sets.specs.declared.Numbers.{Numbers}
 use Rattle.sets.specs.Good.{Good}
 use Rattle.sets.specs.SetI.{setI}

@@ -36,7 +36,7 @@ fn test_begin(set: Numbers, secret: &[u8], message: usize, r: usize, budget: u32
 }
 
 // All tests, with a signature of so many bytes.
-pub fn test_inputs(
+pub(crate) fn test_inputs(
     set: Numbers,
     secret: &[u8],
     message: usize,

@@ -76,7 +76,7 @@ fn search_i(
 }
 
 // The same in every set that there is.
-pub fn search_key(
+pub(crate) fn search_key(
     set: Numbers,
     secret: &[u8],
     digest: &[u8; DIGEST_BYTES],

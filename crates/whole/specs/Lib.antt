@@ -9,6 +9,7 @@ pub mod Written
 pub mod Table
 pub mod TableLaws
 pub mod Fill
+pub mod RowFill
 pub mod Below
 pub mod BelowLaws
 pub mod Bits

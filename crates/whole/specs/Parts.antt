@@ -8,7 +8,6 @@
 --     part-last      the second one of two pieces
 --     part-part      a part of a part
 --     parts-join     a part and the part that follows it are one part
---     part-whole     all elements
 -- Assumes nothing.
 use mathlib.Core.Path.{_≡_, refl, sym, ap, _∙_}
 use mathlib.Core.List.{List, [], _∷_, _++_}
@@ -53,6 +52,3 @@ module _ {A : Type 0} where
 
   pub parts-join : (a m n : ℕ) (xs : List A) → take m (drop a xs) ++ take n (drop (a + m) xs) ≡ take (m + n) (drop a xs)
   parts-join a m n xs = rw (← drop-drop m a xs) (sym (take-add m n (drop a xs)))
-
-  pub part-whole : (m : ℕ) (xs : List A) → length xs ≡ m → take m (drop 0 xs) ≡ xs
-  part-whole m xs e = take-all m xs (le-of-eq e)

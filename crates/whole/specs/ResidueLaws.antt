@@ -50,14 +50,6 @@ same-minus s t = same-add s (same-neg t)
 pub same-less : {q : ℕ} {a b : ℤ} → Same q a b → (c : ℤ) → Same q (a -ℤ c) (b -ℤ c)
 same-less {q} s c = same-minus {c = c} {d = c} s (same-refl q c)
 
--- a product by one factor
-pub same-times : {q : ℕ} {a b : ℤ} (c : ℤ) → Same q a b → Same q (a *ℤ c) (b *ℤ c)
-same-times {q} {a} {b} c s =
-    record {
-      times = s .times *ℤ c;
-      is = rw (s .is, as-difference b, as-difference c, as-difference (pos q), as-difference (s .times)) (simp differences (omega (arith, difference-same)));
-    }
-
 pub same-mul : {q : ℕ} {a b c d : ℤ} → Same q a b → Same q c d → Same q (a *ℤ c) (b *ℤ d)
 same-mul {q} {a} {b} {c} {d} s t =
     record {

@@ -6,7 +6,7 @@ use mathlib.Core.List.{map}
 use lib.ListN.{length}
 use native.Mathlib.Omega.{arith}
 use borrow.Author.Needs.{needs}
-use Rattle.sampling.specs.ValuesLaws.{lessOf}
+use Rattle.sampling.specs.Values.{lessOf}
 use Rattle.sampling.proofs.ValueSteps.{Taking, kept-less, candidate-once, taking-none, taking-more, taking-all, taking-full}
 use Rattle.sampling.proofs.less_stretch.Statement.{statement}
 use Rattle.sampling.proofs.less_stretch.Tie as tie

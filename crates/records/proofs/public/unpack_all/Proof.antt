@@ -19,7 +19,7 @@ unpack-all-spec =
     (tie.spec
     Inv-loop
     μ-loop
-    (λ c. reading-none _ _ _)
+    (λ c. search (reading-none, needs))
     (λ c. omega (arith, row-inside (c .before .before .before .before .pre .good) (c .loop-test .taken)))
     (λ c. omega (arith, row-inside (c .before .before .before .before .pre .good) (c .loop-test .taken)))
     (λ c. omega (arith, row-inside (c .before .before .before .before .pre .good) (c .loop-test .taken)))

@@ -10,8 +10,7 @@ use lib.Seq.{length-take-le}
 use borrow.Author.Needs.{needs}
 use Rattle.shake.specs.Sponge.{squeezed}
 use Rattle.sampling.specs.Candidates.{candidates}
-use Rattle.sampling.specs.Values.{values}
-use Rattle.sampling.specs.ValuesLaws.{lessOf}
+use Rattle.sampling.specs.Values.{values, lessOf}
 use Rattle.sampling.proofs.ValueSteps.{kept-less}
 use Rattle.sampling.proofs.DrawnSteps.{Filled, filled, Squeezing, squeezing-none, squeezing-most, squeezing-more, squeezing-all, less-asks}
 use Rattle.sampling.proofs.drawn.draw_less.Statement.{statement}

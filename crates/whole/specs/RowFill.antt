@@ -1,4 +1,10 @@
--- A row of k polynomials of n coefficients that is written one polynomial after another. Assumes nothing.
+-- A row of k polynomials of n coefficients that is written one polynomial after another.
+--     filling-none               before the first
+--     filling-fits, -lent        the next has its place, of n coefficients
+--     filling-more               it is written there
+--     filling-length             the row's length stays
+--     filling-all                all k are written
+-- Assumes nothing.
 use mathlib.Core.Path.{_≡_, sym, ap, _∙_}
 use mathlib.Core.List.{List, _++_}
 use Prim.Native.Nat.{ℕ, _+_, _*_, _-_, _≤_, _<_, zero-le}
