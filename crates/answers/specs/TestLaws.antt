@@ -4,15 +4,16 @@
 --     after-done, after-refused, after-other      an output after the answer 0, and after any other
 --     before, beyond                what a function answers that makes the tests of another first
 --     tests                         the laws by which `search` proves what a function answers that makes its tests one after another
---     all-pass, passes-all          every test passes, and the answer is 0
+--     all-pass, passes-all, passes-at   every test passes exactly where the answer is 0, and then the test at each place does
 -- Assumes nothing.
 use mathlib.Core.Path.{_≡_, refl, sym, _∙_}
 use mathlib.Core.Bool.{Bool, true, false, not, cond}
 use mathlib.Core.List.{List, [], _∷_, _++_}
-use Prim.Native.Nat.{ℕ, zero, suc, _≤_, zero-le}
+use Prim.Native.Nat.{ℕ, zero, suc}
 use native.Mathlib.Omega.{arith}
-use lib.Dec.{eqb, leb, ltb}
-use borrow.Author.Tests.{eqb-true, eqb-false, eq-eqb, ne-eqb, le-leb, lt-leb, leb-true, ltb-true, not-true, not-false}
+use lib.Dec.{eqb, ltb}
+use lib.ListN.{getD}
+use borrow.Author.Tests.{eqb-true, eqb-false, eq-eqb, ne-eqb, le-leb, lt-leb, ltb-true, not-true, not-false}
 use Rattle.whole.specs.Every.{every}
 use Rattle.whole.specs.EveryLaws.{both-first, both-second}
 use Rattle.answers.specs.Tests.{Test, _orElse_, answer, after, numbered, AllPass, Answered}
@@ -72,16 +73,6 @@ module _ {A : Type 0} where
       go zero k = absurd (k refl)
       go (suc m) k = after-refused m new old refl
 
--- an answer is 0 or one of the tests' numbers, so at most the largest of them
-pub answer-most : (m : ℕ) (ts : List Test) → every (λ (t : Test). leb (t .number) m) ts ≡ true → answer ts ≤ m
-unfolding answer every
-answer-most m [] e = zero-le
-answer-most m (t ∷ ts) e = go (answer-most m ts (both-second (leb (t .number) m) (every (λ (u : Test). leb (u .number) m) ts) e)) (t .passes)
-  where
-    go : answer ts ≤ m → (b : Bool) → cond b (answer ts) (t .number) ≤ m
-    go rest true = rest
-    go rest false = leb-true (t .number) m (both-first (leb (t .number) m) (every (λ (u : Test). leb (u .number) m) ts) e)
-
 -- ---- what a function answers that makes its tests one after another
 
 module _ {ts : List Test} where
@@ -126,7 +117,17 @@ passes-all (t ∷ ts) n e = go (passes-all ts (both-second (ltb 0 (t .number)) (
     go rest true f h = (f, rest h)
     go rest false f h = absurd (omega (arith, ltb-true 0 (t .number) (both-first (ltb 0 (t .number)) (numbered ts) n)))
 
--- the same of the number that a function answered, where it is 0
+-- so the test at each place does
+pub passes-at : (ts : List Test) → numbered ts ≡ true → answer ts ≡ 0 → (i : ℕ) → getD ts i (true orElse 0) .passes ≡ true
+unfolding AllPass
+passes-at ts n e i = go ts i (passes-all ts n e)
+  where
+    go : (us : List Test) (j : ℕ) → AllPass us → getD us j (true orElse 0) .passes ≡ true
+    go [] j p = refl
+    go (t ∷ us) zero p = p .0
+    go (t ∷ us) (suc j) p = go us j (p .1)
+
+-- every test passes, of the number that a function answered, where it is 0
 pub all-passed : {ts : List Test} {number : ℕ} {done : Bool} → numbered ts ≡ true → Answered ts number → done ≡ eqb number 0 → done ≡ true → AllPass ts
 all-passed {ts} {number} n a e h = passes-all ts n (sym (a .is) ∙ eqb-true number 0 (sym e ∙ h))
 

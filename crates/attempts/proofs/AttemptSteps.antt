@@ -14,7 +14,6 @@ use Rattle.sets.specs.SetI.{setI}
 use Rattle.sampling.specs.Positions.{polynomialOf, AreDrawn}
 use Rattle.sampling.specs.Streams.{aOf, yOf, encOf, challenge, highsOf}
 use Rattle.sampling.specs.StreamsLaws.{allA-length, allA-below, enc-terms, yOf-length}
-use Rattle.sampling.specs.Asks.{DrawEnc}
 use Rattle.records.specs.Layout.{polynomial, secretBytes}
 use Rattle.sets.specs.Limits.{seedBytes, digestBytes}
 use Rattle.records.specs.Secret.{sOf, allE, secretSeedA, secretG}
@@ -45,9 +44,6 @@ challenged {set} {secret} w {at} {end} a b h = record { long = hashes-long h; is
 -- ---- once c' is known
 
 module _ {set : Numbers} {s e v ps₀ : List ℕ} {y ss₀ z₀ : List ℤ} (r : Responds set s e y v ps₀ ss₀ z₀) where
-  pub respond-draws : DrawEnc set (length ps₀) (length ss₀)
-  respond-draws = record { good = r .good; long = r .ps-long; paired = r .ss-long }
-
   module _ (c′ : List ℕ) {ps : List ℕ} {ss : List ℤ} (d : AreDrawn (encOf set c′) ps ss) where
     pub respond-makes : MakesZ set s y ps ss z₀
     respond-makes =

@@ -1,6 +1,6 @@
 -- For every good set: an attempt that passes with the key that was made gives a z and a c' that checking accepts.
 -- Assumes nothing.
-use mathlib.Core.Path.{_≡_, sym, ap, ap₂, _∙_}
+use mathlib.Core.Path.{_≡_, refl, sym, ap, ap₂, _∙_}
 use mathlib.Core.Bool.{Bool, true}
 use mathlib.Core.List.{List, map}
 use Prim.Native.Nat.{ℕ, _*_, _≤_, _<_}
@@ -16,7 +16,7 @@ use Rattle.whole.specs.TableLaws.{joined-ext, joined-part}
 use Rattle.whole.specs.Every.{every, eachBelow, sameBytes}
 use Rattle.answers.specs.Tests.{answer}
 use Rattle.whole.specs.EveryLaws.{both-first, both-second, every-at, eachBelow-at, same-refl-bytes}
-use Rattle.answers.specs.TestLaws.{answer-pass, answer-none}
+use Rattle.answers.specs.TestLaws.{answer-pass, answer-none, passes-at}
 use Rattle.rounding.specs.Parts.{high}
 use Rattle.rounding.specs.Tests.{lowPasses, sizePasses, fitsByte}
 use Rattle.ring.specs.Product.{mul}
@@ -30,29 +30,27 @@ use Rattle.sets.specs.Limits.{messageLimit, seedBytes}
 use Rattle.sets.specs.GoodLaws.{q-some}
 use Rattle.sampling.specs.Positions.{polynomialOf}
 use Rattle.sampling.specs.StreamsLaws.{shake-length, encOf-small, encOf-total}
-use Rattle.sampling.specs.Streams.{aOf, yOf, encOf, challenge, messageDigest, keyDigest, highsOf}
-use Rattle.records.specs.Layout.{marked, publicBytes}
-use Rattle.records.specs.Public.{packedT, tOf, allT, seedAOf}
+use Rattle.sampling.specs.Streams.{aOf, yOf, encOf, challenge, messageDigest, keyDigest, highParts, highsOf}
+use Rattle.records.specs.Public.{tOf, seedAOf, publicTests, readPublicTests}
 use Rattle.records.specs.Secret.{eOf}
 use Rattle.signatures.specs.Signature.{signatureRecord, zOf, challengeOf, zInRange}
-use Rattle.records.specs.PublicLaws.{polynomial-length, below-tInRange, publicRecord-length, public-marked, public-packed, public-seedA, public-t, public-allT}
+use Rattle.records.specs.PublicLaws.{polynomial-length, public-packed, public-t}
 use Rattle.signatures.specs.Laws.{signatureRecord-length, signature-marked, signature-challenge, signature-z}
 use Rattle.keys.specs.Key.{keyT, allKeyT, publicOf, eachEPasses}
+use Rattle.keys.specs.Made.{keyG, Accepted, MadeReads}
+use Rattle.keys.specs.MadeLaws.{accepted-reads}
 use Rattle.keys.specs.KeyLaws.{keyT-length, allKeyT-length, allKeyT-below}
 use Rattle.attempts.specs.Attempt.{Key, passes, vOf, zFrom, wOf, wPasses, attempt}
 use Rattle.attempts.specs.AttemptLaws.{vOf-length, wOf-length, zFrom-length, Passing, passing, attempt-z, attempt-w}
+use Rattle.signing.specs.OwnKeyLaws.{madeKey}
 use Rattle.checking.specs.Check.{checkW, checkHighs, publicG, inputTests, highTests, hashTests, workTests, digestTests, checkTests}
 use Rattle.demands.specs.Alike.{same-w, alike}
 
--- ---- lengths, and a mark
+-- ---- a length
 
-pub challenge-length : (set : Numbers) (highs : List ℤ) (digest g : List ℕ) → length (challenge set highs digest g) ≡ seedBytes
+challenge-length : (set : Numbers) (highs : List ℤ) (digest g : List ℕ) → length (challenge set highs digest g) ≡ seedBytes
 unfolding challenge
-challenge-length set highs digest g = shake-length _ 32
-
-pub made-marked : (set : Numbers) (s e seedA : List ℕ) → marked set 1 (publicOf set s e seedA) ≡ true
-unfolding publicOf
-made-marked set s e seedA = public-marked set (allKeyT set s e seedA) seedA
+challenge-length set highs digest g = shake-length _ seedBytes
 
 -- f cannot tell two lists apart
 map-alike : {A B : Type 0} (f : A → B) (n : ℕ) (xs ys : List A) (d : A) → length xs ≡ n → length ys ≡ n → ((j : ℕ) → j < n → f (getD xs j d) ≡ f (getD ys j d)) → map f xs ≡ map f ys
@@ -63,33 +61,19 @@ map-alike {B = B} f n xs ys d e g h =
 -- ---- the key that key making made
 
 module _ (set : Numbers) (good : Good set) (s e seedA : List ℕ) where
-  -- t_1..t_k, and what the public record holds of them
-  abbrev pub madeT : List ℕ
+  -- t_1..t_k
+  abbrev madeT : List ℕ
   madeT = allKeyT set s e seedA
 
-  abbrev pub madeKey : Key
-  madeKey = record { s = s; e = e; seedA = seedA; g = keyDigest set (packedT set madeT) }
-
+  -- what the public record holds of them
   made-t : (i : ℕ) → i < set .k → tOf set (publicOf set s e seedA) i ≡ keyT set s e seedA i
   unfolding publicOf allKeyT
   made-t i l =
       public-t set madeT seedA (allKeyT-length set s e seedA) good (allKeyT-below set s e seedA good) i l
       ∙ joined-part (set .k) (set .n) i (keyT set s e seedA) (λ j m. keyT-length set s e seedA j) l
 
-  -- what the public record reads back as
-  pub made-length : length seedA ≡ seedBytes → length (publicOf set s e seedA) ≡ publicBytes set
-  unfolding publicOf
-  made-length h = publicRecord-length set madeT seedA (allKeyT-length set s e seedA) h
-
-  pub made-allT : allT set (publicOf set s e seedA) ≡ madeT
-  unfolding publicOf
-  made-allT = public-allT set madeT seedA (allKeyT-length set s e seedA) good (allKeyT-below set s e seedA good)
-
-  pub made-seedA : length seedA ≡ seedBytes → seedAOf set (publicOf set s e seedA) ≡ seedA
-  unfolding publicOf
-  made-seedA h = public-seedA set madeT seedA (allKeyT-length set s e seedA) h
-
-  pub made-g : publicG set (publicOf set s e seedA) ≡ keyDigest set (packedT set madeT)
+  -- and its digest
+  made-g : publicG set (publicOf set s e seedA) ≡ keyG set s e seedA
   unfolding publicOf publicG
   made-g = ap (keyDigest set) (public-packed set madeT seedA (allKeyT-length set s e seedA))
 
@@ -107,10 +91,6 @@ module _ (set : Numbers) (good : Good set) (s e seedA : List ℕ) where
 
     abbrev ec : ℕ → ℕ → ℤ
     ec i = mul (set .n) (signedBytes (eOf set e i)) (polynomialOf (encOf set c′))
-
-    -- the high parts of one polynomial
-    abbrev highs : List ℕ → List ℤ
-    highs = map (λ x. high (set .q) (set .d) (pos x))
 
     -- |e_i c| is at most E
     small : (i j : ℕ) → i < set .k → j < set .n → natAbs (ec i j) ≤ set .e
@@ -149,7 +129,7 @@ module _ (set : Numbers) (good : Good set) (s e seedA : List ℕ) where
             same-trans (same-eq (set .q) apart)
             (same-add (same-sym (residues-at (set .q) (set .n) (λ j. naturals (v i) j -ℤ ec i j) j (q-some good) m)) (same-refl (set .q) (ec i j)))
 
-    alike-lists : (i : ℕ) → i < set .k → highs (w i) ≡ highs (v i)
+    alike-lists : (i : ℕ) → i < set .k → highParts set (w i) ≡ highParts set (v i)
     alike-lists i l =
         map-alike (λ x. high (set .q) (set .d) (pos x)) (set .n) (w i) (v i) 0 (wOf-length set e v (encOf set c′) i) (vOf-length set seedA y i)
         (λ j m. one-coefficient i j l m)
@@ -164,33 +144,59 @@ module _ (set : Numbers) (good : Good set) (s e seedA : List ℕ) where
 
     pub same-highs : checkHighs set seedA (tOf set (publicOf set s e seedA)) (zFrom set s y (encOf set c′)) c′ ≡ highsOf set (vOf set seedA y)
     unfolding checkHighs highsOf
-    same-highs = joined-ext (set .k) _ _ (λ i l. ap highs (receiver i l) ∙ alike-lists i l)
+    same-highs = joined-ext (set .k) _ _ (λ i l. ap (highParts set) (receiver i l) ∙ alike-lists i l)
 
--- ---- demand 3
+-- ---- what an attempt that passes gives
 
-module _ (set : Numbers) (good : Good set) (s e seedA message : List ℕ) where
-  -- the facts of a key that was accepted, and of a message that was
-  module _ (e-long : length e ≡ set .k * set .n) (seedA-long : length seedA ≡ seedBytes) (checkE : eachEPasses set e ≡ true)
-      (short : length message ≤ messageLimit) where
+-- it can be written: z has n coefficients within B − S, and c' 32 bytes
+pub record SignatureFits (set : Numbers) (z : List ℤ) (c′ : List ℕ) : Type 0 where
+  pub z-long : length z ≡ set .n
+  pub c-long : length c′ ≡ seedBytes
+  pub z-passes : zInRange set z ≡ true
+
+pub passed-fits : (set : Numbers) (key : Key) (digest rand : List ℕ) (counter : ℕ) (z : List ℤ) (c′ : List ℕ)
+    → attempt set key digest rand counter ≡ passes z c′ → SignatureFits set z c′
+passed-fits set key digest rand counter z c′ a =
+    record {
+      z-long = ap length (sym (p .is)) ∙ zFrom-length set (key .s) y (encOf set c′);
+      c-long = ap length (sym (p .hash)) ∙ challenge-length set (highsOf set (vOf set (key .seedA) y)) digest (key .g);
+      z-passes = ap (zInRange set) (sym (p .is)) ∙ attempt-z set key y (vOf set (key .seedA) y) (encOf set c′) (p .tests);
+    }
+  where
+    y : List ℤ
+    y = yOf set rand counter
+
+    p : Passing set key digest rand counter z c′
+    p = passing set key digest rand counter z c′ a
+
+-- ---- what checking answers
+
+module _ (set : Numbers) (good : Good set) (s e seedA seedY message : List ℕ) where
+  -- a key that was accepted, and a message within the limit
+  module _ (made : Accepted set s e seedA seedY) (short : length message ≤ messageLimit) where
     -- an attempt that passes gives a signature that checking accepts
     pub accepted : (rand : List ℕ) (counter : ℕ) (z : List ℤ) (c′ : List ℕ)
-        → attempt set (madeKey set good s e seedA) (messageDigest set message) rand counter ≡ passes z c′
+        → attempt set (madeKey set s e seedA) (messageDigest set message) rand counter ≡ passes z c′
         → answer (checkTests set (publicOf set s e seedA) message (signatureRecord set z c′)) ≡ 0
-    unfolding inputTests highTests hashTests workTests digestTests checkTests
+    unfolding inputTests highTests hashTests workTests digestTests checkTests readPublicTests publicTests every
     accepted rand counter z c′ a =
-        answer-pass 1 _ (eq-eqb _ _ (made-length set good s e seedA seedA-long))
-        ∙ answer-pass 1 _ (eq-eqb _ _ (signatureRecord-length set z c′ z-long c-long))
-        ∙ answer-pass 2 _ (made-marked set s e seedA)
+        let at = passes-at (readPublicTests set public (set .k * set .n) seedBytes) refl (reads .public) in
+        answer-pass 1 _ (at 2)
+        ∙ answer-pass 1 _ (eq-eqb _ _ (signatureRecord-length set z c′ (fits .z-long) (fits .c-long)))
+        ∙ answer-pass 2 _ (at 3)
         ∙ answer-pass 2 _ (signature-marked set z c′)
         ∙ answer-pass 3 _ (le-leb (length message) messageLimit short)
-        ∙ answer-pass 5 _ (below-tInRange set (allT set public) (rw made-allT (allKeyT-below set s e seedA good)))
-        ∙ answer-pass 9 _ (ap (zInRange set) z-back ∙ z-passes)
+        ∙ answer-pass 5 _ (at 4)
+        ∙ answer-pass 9 _ (ap (zInRange set) z-back ∙ fits .z-passes)
         ∙ answer-pass 10 _ (ap (every fitsByte) highs-are ∙ p .fits)
         ∙ answer-pass 11 _ (ap₂ sameBytes hash-is c-back ∙ same-refl-bytes c′)
         ∙ answer-none
       where
+        reads : MadeReads set s e seedA seedY
+        reads = accepted-reads set s e seedA seedY made good
+
         key : Key
-        key = madeKey set good s e seedA
+        key = madeKey set s e seedA
 
         y : List ℤ
         y = yOf set rand counter
@@ -204,32 +210,26 @@ module _ (set : Numbers) (good : Good set) (s e seedA message : List ℕ) where
         p : Passing set key (messageDigest set message) rand counter z c′
         p = passing set key (messageDigest set message) rand counter z c′ a
 
-        z-long : length z ≡ set .n
-        z-long = ap length (sym (p .is)) ∙ zFrom-length set s y (encOf set c′)
-
-        c-long : length c′ ≡ seedBytes
-        c-long = ap length (sym (p .hash)) ∙ challenge-length set (highsOf set (vOf set seedA y)) (messageDigest set message) (key .g)
-
-        z-passes : zInRange set z ≡ true
-        z-passes = ap (zInRange set) (sym (p .is)) ∙ attempt-z set key y (vOf set seedA y) (encOf set c′) (p .tests)
+        fits : SignatureFits set z c′
+        fits = passed-fits set key (messageDigest set message) rand counter z c′ a
 
         w-passes : eachBelow (set .k) (λ i. wPasses set (wOf set e (vOf set seedA y) (encOf set c′) i)) ≡ true
         w-passes = attempt-w set key y (vOf set seedA y) (encOf set c′) (p .tests)
 
         z-back : zOf set signature ≡ z
-        z-back = signature-z set z c′ z-long good z-passes
+        z-back = signature-z set z c′ (fits .z-long) good (fits .z-passes)
 
         c-back : challengeOf set signature ≡ c′
-        c-back = signature-challenge set z c′ z-long c-long
+        c-back = signature-challenge set z c′ (fits .z-long) (fits .c-long)
 
         few : AtMost (set .n) (set .h) (polynomialOf (encOf set c′))
         few = record { small = λ i l. encOf-small set good c′ i; few = encOf-total set good c′ }
 
         highs-are : checkHighs set (seedAOf set public) (tOf set public) (zOf set signature) (challengeOf set signature) ≡ highsOf set (vOf set seedA y)
         highs-are =
-            ap (λ (x : List ℕ). checkHighs set x (tOf set public) (zOf set signature) (challengeOf set signature)) (made-seedA set good s e seedA seedA-long)
+            ap (λ (x : List ℕ). checkHighs set x (tOf set public) (zOf set signature) (challengeOf set signature)) (reads .public-seedA)
             ∙ ap₂ (λ (x : List ℤ) (d : List ℕ). checkHighs set seedA (tOf set public) x d) (z-back ∙ sym (p .is)) c-back
-            ∙ same-highs set good s e seedA e-long checkE y c′ few w-passes
+            ∙ same-highs set good s e seedA (made .lengths .e-long) (made .checkE) y c′ few w-passes
 
         hash-is : challenge set (checkHighs set (seedAOf set public) (tOf set public) (zOf set signature) (challengeOf set signature)) (messageDigest set message) (publicG set public) ≡ c′
         hash-is = ap₂ (λ (h : List ℤ) (g : List ℕ). challenge set h (messageDigest set message) g) highs-are (made-g set good s e seedA) ∙ p .hash

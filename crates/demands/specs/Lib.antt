@@ -1,7 +1,13 @@
+pub mod Facts
 pub mod TwelveSums
+pub mod Lengths
 pub mod BothTests
+pub mod FirstTest
 pub mod Demand1
 pub mod Alike
 pub mod Holds
+pub mod Never10
 pub mod Demand3
+pub mod Demand2
 pub mod Roster
+pub mod Calls

@@ -21,6 +21,7 @@ use Rattle.packing.specs.Digits.{packed, digits, value}
 use Rattle.sampling.specs.Values.{values, sum-10}
 use Rattle.sampling.specs.Positions.{positions, coefficients, sum-11}
 use Rattle.sets.specs.SetI.{setI}
+use Rattle.demands.specs.Facts.{All, _and_}
 
 abbrev minus : ℕ → ℤ
 minus a = negℤ (pos a)
@@ -32,14 +33,14 @@ x³ = pos 0 ∷ pos 0 ∷ pos 0 ∷ pos 1 ∷ []
 abbrev x : List ℤ
 x = pos 0 ∷ pos 1 ∷ pos 0 ∷ pos 0 ∷ []
 
-times : List ℤ → List ℤ → List ℤ
+abbrev times : List ℤ → List ℤ → List ℤ
 times f g = table 4 (mul 4 (integers f) (integers g))
 
 -- twenty-four entries of 22, one of `other`, zeros: 1,024 bytes
-spread : ℕ → List ℕ
+abbrev spread : ℕ → List ℕ
 spread other = replicate 24 22 ++ (other ∷ replicate (setI .n - 25) 0)
 
-pub sums : List (Type 0)
+unfoldable pub sums : List (Type 0)
 sums =
     -- 1. centred by 17
     (map (centred 17) (pos 8 ∷ pos 9 ∷ pos 17 ∷ minus 9 ∷ []) ≡ pos 8 ∷ minus 8 ∷ pos 0 ∷ pos 8 ∷ [])
@@ -56,9 +57,10 @@ sums =
     × (times x³ x³ ≡ pos 0 ∷ pos 0 ∷ minus 1 ∷ pos 0 ∷ []))
     -- 6. h = 2
     ∷ (largest 2 (map natAbs (pos 3 ∷ minus 5 ∷ pos 2 ∷ pos 4 ∷ [])) ≡ 9)
-    -- 7. 554 passes, 555 is refused
-    ∷ ((largest (setI .h) (sizes (spread 26)) ≡ 554) × (sumPasses (setI .h) (setI .e) (spread 26) ≡ true)
-    × (largest (setI .h) (sizes (spread 27)) ≡ 555) × (sumPasses (setI .h) (setI .e) (spread 27) ≡ false))
+    -- 7. 554 passes, 555 is refused: checkE with E, and checkS with S
+    ∷ ((largest (setI .h) (sizes (spread 26)) ≡ 554) × (largest (setI .h) (sizes (spread 27)) ≡ 555)
+    × (sumPasses (setI .h) (setI .e) (spread 26) ≡ true) × (sumPasses (setI .h) (setI .e) (spread 27) ≡ false)
+    × (sumPasses (setI .h) (setI .s) (spread 26) ≡ true) × (sumPasses (setI .h) (setI .s) (spread 27) ≡ false))
     -- 8. t = 1, 1 at 29 bits begin 01 00 00 20
     ∷ (take 4 (packed 29 (1 ∷ 1 ∷ [])) ≡ 0x01 ∷ 0x00 ∷ 0x00 ∷ 0x20 ∷ [])
     -- 9. z = −1, 0 at 20 bits
@@ -76,47 +78,19 @@ sums =
     × (map (zPasses (setI .b - setI .s)) (pos 523733 ∷ pos 523734 ∷ minus 523733 ∷ minus 523734 ∷ []) ≡ true ∷ false ∷ true ∷ false ∷ []))
     ∷ []
 
--- every statement of a table holds
-abbrev pub All : List (Type 0) → Type 0
-All [] = Unit {0}
-All (A ∷ As) = A × All As
-
 pub twelve-sums : All sums
-unfolding sums times spread residue sum row signed centred low high lowPasses sizePasses zPasses mul turn sumPasses places push added packed digits value
-twelve-sums = (
-  refl,
-  (
-    refl,
-    (
-      (refl, refl, refl, refl),
-      (
-        (refl, refl, refl),
-        (
-          (refl, refl),
-          (
-            refl,
-            (
-              (refl, refl, refl, refl),
-              (
-                refl,
-                (
-                  refl,
-                  (
-                    sum-10,
-                    (
-                      sum-11,
-                      (
-                        (refl, refl, refl, refl),
-                        tt,
-                      ),
-                    ),
-                  ),
-                ),
-              ),
-            ),
-          ),
-        ),
-      ),
-    ),
-  ),
-)
+unfolding sums residue sum row signed centred low high lowPasses sizePasses zPasses mul turn sumPasses places push added packed digits value
+twelve-sums =
+    refl
+    and refl
+    and (refl, refl, refl, refl)
+    and (refl, refl, refl)
+    and (refl, refl)
+    and refl
+    and (refl, refl, refl, refl, refl, refl)
+    and refl
+    and refl
+    and sum-10
+    and sum-11
+    and (refl, refl, refl, refl)
+    and tt

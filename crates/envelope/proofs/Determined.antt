@@ -17,6 +17,10 @@ use Rattle.envelope.proofs.read.Kinds as read-kinds
 use Rattle.envelope.proofs.read.Reads as read
 use Rattle.envelope.proofs.open.Kinds as open-kinds
 use Rattle.envelope.proofs.open.Reads as opens
+use Rattle.envelope.proofs.open_roster.Kinds as open-roster-kinds
+use Rattle.envelope.proofs.open_roster.Reads as open-roster
+use Rattle.envelope.proofs.open_input.Kinds as open-input-kinds
+use Rattle.envelope.proofs.open_input.Reads as open-input
 use Rattle.envelope.proofs.roster.Kinds as roster-kinds
 use Rattle.envelope.proofs.roster.Reads as roster
 use Rattle.envelope.proofs.signature.Kinds as signature-kinds
@@ -43,6 +47,9 @@ opens-one x y p q =
 pub read-determined : Result 1 read-kinds.ps read-kinds.r read.Learnt
 read-determined κs a x y e f p q = opens-one x y p q
 
+pub open-input-determined : Result 1 open-input-kinds.ps open-input-kinds.r open-input.Learnt
+open-input-determined κs a x y e f p q = opens-one x y p q
+
 pub open-determined : Result 2 open-kinds.ps open-kinds.r opens.Learnt
 open-determined κs a x y e f p q = opens-one x y p q
 
@@ -53,3 +60,6 @@ roster-determined κs a x y e f p q = p ∙ sym q
 
 pub signature-determined : Held 1 signature-kinds.ps signature-kinds.r signature.Learnt (λ κs x. now x)
 signature-determined κs a x y e f p q = p ∙ sym q
+
+pub open-roster-determined : Held 2 open-roster-kinds.ps open-roster-kinds.r open-roster.Learnt (λ κs x. now x)
+open-roster-determined κs a x y e f p q = p ∙ sym q

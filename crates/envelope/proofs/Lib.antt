@@ -1,3 +1,4 @@
+pub mod InputSteps
 pub mod Determined
 pub mod HeadSteps
 pub mod PartLaws

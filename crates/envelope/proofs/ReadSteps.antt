@@ -1,18 +1,19 @@
 -- Reading and opening: the tests that follow the head's, over the parts that the code lends, and what comes back with an answer.
 -- Assumes nothing.
-use mathlib.Core.Path.{_≡_}
+use mathlib.Core.Path.{_≡_, ap, _∙_}
 use mathlib.Core.Bool.{Bool, true, false}
 use mathlib.Core.List.{List, [], _∷_}
 use Prim.Native.Nat.{ℕ, _+_}
 use lib.Dec.{eqb}
-use Rattle.answers.specs.Tests.{_orElse_, Answered}
+use Rattle.answers.specs.Tests.{Test, _orElse_, answer, Answered}
 use Rattle.answers.specs.OutputLaws.{made-done, kept-refused}
 use Rattle.sets.specs.declared.Numbers.{Numbers}
 use Rattle.sets.specs.SetI.{setI}
 use Rattle.records.specs.Layout.{marked, stretch, signatureBytes}
 use Rattle.signatures.specs.Signature.{zOf, zInRange}
 use Rattle.checking.specs.Check.{checkTests}
-use Rattle.envelope.specs.Envelope.{headBytes, teamOf, lengthOf, rosterOf, signatureOf, readTests}
+use Rattle.envelope.specs.Envelope.{headBytes, teamOf, lengthOf, rosterOf, signatureOf, readTests, rosterAnswered}
+use Rattle.envelope.specs.EnvelopeLaws.{roster-answered}
 use Rattle.envelope.specs.Promises.{Opens, Comes}
 
 -- ---- the tests that follow
@@ -40,6 +41,11 @@ module _ {envelope : List ℕ} {number : ℕ} {done : Bool} (e : done ≡ eqb nu
   pub comes-refused : done ≡ false → Comes envelope number number 0 0
   comes-refused h =
       record { opens = λ ts a. record { answered = a; team-is = kept-refused a e h; len-is = kept-refused a e h } }
+
+-- the stretch of the length that opening answers
+pub roster-opened : (envelope : List ℕ) {ts : List Test} {number team len : ℕ} {out : List ℕ} → Opens ts envelope number team len
+    → out ≡ stretch headBytes len envelope → out ≡ rosterAnswered (answer ts) envelope
+roster-opened envelope {ts} o e = e ∙ ap (λ (n : ℕ). stretch headBytes n envelope) (o .len-is .is) ∙ roster-answered (answer ts) envelope
 
 -- ---- set I
 

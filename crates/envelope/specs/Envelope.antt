@@ -78,6 +78,10 @@ writeTests s roster signature envelopeLength =
 abbrev pub teamAnswered : ℕ → List ℕ → ℕ
 teamAnswered refusal envelope = after refusal (teamOf envelope) 0
 
+-- the roster's length, 0 on refusal
+abbrev pub lengthAnswered : ℕ → List ℕ → ℕ
+lengthAnswered refusal envelope = after refusal (lengthOf envelope) 0
+
 -- the roster, the stretch of the lent envelope, empty on refusal
 abbrev pub rosterAnswered : ℕ → List ℕ → List ℕ
 rosterAnswered refusal envelope = after refusal (rosterOf envelope) []

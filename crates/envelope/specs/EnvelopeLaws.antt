@@ -1,6 +1,7 @@
--- Laws of the envelope of a good set: what is written reads back (`envelope-team`, `envelope-length`, `envelope-roster`,
--- `envelope-signature`), what reads is what would be written (`envelope-again`), an envelope around a signature that checking
--- accepts is opened (`envelope-opens`), and the roster that comes back is the stretch of the length that does (`roster-answered`).
+-- Laws of the envelope: what is written reads back (`envelope-team`, `envelope-length`, `envelope-roster`, `envelope-signature`), what
+-- reads is what would be written (`envelope-again`), an envelope around a signature that checking accepts is opened
+-- (`envelope-opens`), and the roster that comes back is the stretch of the length that does (`roster-answered`). RoundTripLaws states the
+-- first two from the entries' tests.
 -- Assumes nothing.
 use mathlib.Core.Path.{_≡_, refl, sym, ap, ap₂, _∙_}
 use mathlib.Core.Bool.{true}
@@ -13,17 +14,16 @@ use borrow.Author.Tests.{eq-eqb, eqb-true, le-leb, leb-true}
 use Rattle.whole.specs.Below.{Below}
 use Rattle.whole.specs.Parts.{part-length, part-second, part-last, parts-join}
 use Rattle.whole.specs.Every.{every}
-use Rattle.answers.specs.Tests.{answer, after, AllPass, numbered}
-use Rattle.answers.specs.TestLaws.{all-pass, passes-all, answer-past}
+use Rattle.answers.specs.Tests.{answer, after, numbered}
+use Rattle.answers.specs.TestLaws.{answer-pass, answer-none, answer-past, passes-at}
 use Rattle.sets.specs.declared.Numbers.{Numbers}
 use Rattle.sets.specs.Limits.{messageLimit}
 use Rattle.sampling.specs.Streams.{twoBytes}
 use Rattle.records.specs.Layout.{mark, marked, stretch, signatureBytes}
 use Rattle.records.specs.PublicLaws.{marked-mark, marked-front}
-use Rattle.signatures.specs.Signature.{zOf, zInRange}
 use Rattle.checking.specs.Check.{checkTests}
 use Rattle.envelope.specs.Asks.{Writable}
-use Rattle.envelope.specs.Envelope.{headBytes, envelopeBytes, envelopeOf, numberAt, teamOf, lengthOf, rosterOf, signatureOf, headTests, readTests, openTests, writeTests, rosterAnswered}
+use Rattle.envelope.specs.Envelope.{headBytes, envelopeBytes, envelopeOf, numberAt, teamOf, lengthOf, rosterOf, signatureOf, headTests, openTests, writeTests, lengthAnswered, rosterAnswered}
 
 -- no test of the head has the number 0
 pub head-numbered : (s : Numbers) (envelope : List ℕ) → numbered (headTests s envelope) ≡ true
@@ -80,19 +80,14 @@ module _ (s : Numbers) (team : ℕ) (roster signature : List ℕ) where
 
   -- its head passes
   pub envelope-head : length signature ≡ signatureBytes s → length roster ≤ messageLimit → answer (headTests s (envelopeOf s team roster signature)) ≡ 0
-  unfolding headTests AllPass
+  unfolding headTests
   envelope-head e short =
       let inside : length roster < 65536 = omega arith in
-      all-pass _ (
-        le-leb headBytes (length (envelopeOf s team roster signature)) (omega (arith, envelope-bytes e)),
-        (
-          envelope-marked,
-          (
-            le-leb (lengthOf (envelopeOf s team roster signature)) messageLimit (omega (arith, envelope-length inside)),
-            (eq-eqb _ _ (envelope-bytes e ∙ ap (envelopeBytes s) (sym (envelope-length inside))), tt),
-          ),
-        ),
-      )
+      answer-pass 1 _ (le-leb headBytes (length (envelopeOf s team roster signature)) (omega (arith, envelope-bytes e)))
+      ∙ answer-pass 2 _ envelope-marked
+      ∙ answer-pass 3 _ (le-leb (lengthOf (envelopeOf s team roster signature)) messageLimit (omega (arith, envelope-length inside)))
+      ∙ answer-pass 1 _ (eq-eqb _ _ (envelope-bytes e ∙ ap (envelopeBytes s) (sym (envelope-length inside))))
+      ∙ answer-none
 
   pub envelope-opens : (public : List ℕ) → length signature ≡ signatureBytes s → length roster ≤ messageLimit
       → answer (checkTests s public roster signature) ≡ 0 → answer (openTests s public (envelopeOf s team roster signature)) ≡ 0
@@ -102,33 +97,30 @@ module _ (s : Numbers) (team : ℕ) (roster signature : List ℕ) where
       ∙ ap₂ (λ (m g : List ℕ). answer (checkTests s public m g)) (envelope-roster (omega arith)) (envelope-signature (omega arith) e)
       ∙ accepted
 
--- ---- an envelope that was written is read
+-- ---- what writing's tests say
 
--- what writing's tests say
 pub writable : (s : Numbers) (roster signature : List ℕ) (envelopeLength : ℕ) → answer (writeTests s roster signature envelopeLength) ≡ 0 → Writable s roster signature envelopeLength
-unfolding writeTests AllPass every
+unfolding writeTests every
 writable s roster signature envelopeLength h =
-    let p = passes-all (writeTests s roster signature envelopeLength) refl h in
+    let at = passes-at (writeTests s roster signature envelopeLength) refl h in
     record {
-      signature-long = eqb-true _ _ (p .0);
-      envelope-long = eqb-true _ _ (p .1 .0);
-      signature-mark = p .1 .1 .0;
-      short = leb-true _ _ (p .1 .1 .1 .0);
-      z-passes = p .1 .1 .1 .1 .0;
+      signature-long = eqb-true _ _ (at 0);
+      envelope-long = eqb-true _ _ (at 1);
+      signature-mark = at 2;
+      short = leb-true _ _ (at 3);
+      z-passes = at 4;
     }
 
-pub envelope-reads : (s : Numbers) (team : ℕ) (roster signature : List ℕ) (envelopeLength : ℕ)
-    → answer (writeTests s roster signature envelopeLength) ≡ 0 → answer (readTests s (envelopeOf s team roster signature)) ≡ 0
-unfolding readTests AllPass
-envelope-reads s team roster signature envelopeLength h =
-    answer-past (headTests s (envelopeOf s team roster signature)) _ (head-numbered s (envelopeOf s team roster signature)) (envelope-head s team roster signature (w .signature-long) (w .short))
-    ∙ all-pass _ (ap (marked s 3) back-is ∙ w .signature-mark, (ap (λ (x : List ℕ). zInRange s (zOf s x)) back-is ∙ w .z-passes, tt))
-  where
-    w : Writable s roster signature envelopeLength
-    w = writable s roster signature envelopeLength h
-
-    back-is : signatureOf s (envelopeOf s team roster signature) ≡ signature
-    back-is = envelope-signature s team roster signature (omega (arith, w .short)) (w .signature-long)
+-- and what has those facts passes them
+pub writable-passes : (s : Numbers) (roster signature : List ℕ) (envelopeLength : ℕ) → Writable s roster signature envelopeLength → answer (writeTests s roster signature envelopeLength) ≡ 0
+unfolding writeTests
+writable-passes s roster signature envelopeLength w =
+    answer-pass 1 _ (eq-eqb _ _ (w .signature-long))
+    ∙ answer-pass 1 _ (eq-eqb _ _ (w .envelope-long))
+    ∙ answer-pass 2 _ (w .signature-mark)
+    ∙ answer-pass 3 _ (le-leb _ _ (w .short))
+    ∙ answer-pass 9 _ (w .z-passes)
+    ∙ answer-none
 
 -- ---- what reads is what would be written
 
@@ -153,36 +145,48 @@ two-back a xs h b =
     high : numberAt a xs / 256 % 256 ≡ getD xs (suc a) 0
     high = rw (← next) (omega (arith, x-below, y-below))
 
--- the mark and the total of a head that passed
+-- the mark, the total and the two stretches of an envelope whose head passed
 module _ (s : Numbers) (envelope : List ℕ) (passed : answer (headTests s envelope) ≡ 0) where
   is-marked : marked s 4 envelope ≡ true
-  unfolding headTests AllPass every
-  is-marked = passes-all (headTests s envelope) refl passed .1 .0
+  unfolding headTests every
+  is-marked = passes-at (headTests s envelope) refl passed 1
 
   pub envelope-total : length envelope ≡ envelopeBytes s (lengthOf envelope)
-  unfolding headTests AllPass every
-  envelope-total = eqb-true _ _ (passes-all (headTests s envelope) refl passed .1 .1 .1 .0)
+  unfolding headTests every
+  envelope-total = eqb-true _ _ (passes-at (headTests s envelope) refl passed 3)
+
+  pub rosterOf-length : length (rosterOf envelope) ≡ lengthOf envelope
+  unfolding rosterOf
+  rosterOf-length = part-length headBytes (lengthOf envelope) envelope (omega (arith, envelope-total))
+
+  pub signatureOf-length : length (signatureOf s envelope) ≡ signatureBytes s
+  unfolding signatureOf
+  signatureOf-length = part-length (headBytes + lengthOf envelope) (signatureBytes s) envelope (omega (arith, envelope-total))
 
 module _ (s : Numbers) (envelope : List ℕ) (bytes : Below 256 envelope) (passed : answer (headTests s envelope) ≡ 0) where
+  -- two bytes make a team number
+  pub teamOf-fits : teamOf envelope < 65536
+  unfolding teamOf
+  teamOf-fits =
+      let total = envelope-total s envelope passed in
+      omega (arith, bytes .at 2 (omega (arith, total)), bytes .at 3 (omega (arith, total)))
+
   pub envelope-again : envelopeOf s (teamOf envelope) (rosterOf envelope) (signatureOf s envelope) ≡ envelope
   unfolding envelopeOf teamOf rosterOf signatureOf lengthOf
   envelope-again =
       ap₂ _++_ (marked-front s 4 envelope (omega (arith, envelope-total s envelope passed)) (is-marked s envelope passed))
       (ap₂ _++_ (two-back 2 envelope (omega (arith, envelope-total s envelope passed)) bytes)
-      (ap₂ _++_ (ap twoBytes roster-length ∙ two-back 4 envelope (omega (arith, envelope-total s envelope passed)) bytes)
+      (ap₂ _++_ (ap twoBytes (rosterOf-length s envelope passed) ∙ two-back 4 envelope (omega (arith, envelope-total s envelope passed)) bytes)
       (parts-join headBytes (lengthOf envelope) (signatureBytes s) envelope)
       ∙ parts-join 4 2 (lengthOf envelope + signatureBytes s) envelope)
       ∙ parts-join 2 2 (2 + (lengthOf envelope + signatureBytes s)) envelope)
       ∙ parts-join 0 2 (2 + (2 + (lengthOf envelope + signatureBytes s))) envelope
       ∙ take-all (2 + (2 + (2 + (lengthOf envelope + signatureBytes s)))) envelope (omega (arith, envelope-total s envelope passed))
-    where
-      roster-length : length (stretch headBytes (lengthOf envelope) envelope) ≡ lengthOf envelope
-      roster-length = part-length headBytes (lengthOf envelope) envelope (omega (arith, envelope-total s envelope passed))
 
 -- ---- what comes back
 
 -- the stretch of the length that comes back is the roster that comes back: on refusal both are empty
-pub roster-answered : (refusal : ℕ) (envelope : List ℕ) → stretch headBytes (after refusal (lengthOf envelope) 0) envelope ≡ rosterAnswered refusal envelope
+pub roster-answered : (refusal : ℕ) (envelope : List ℕ) → stretch headBytes (lengthAnswered refusal envelope) envelope ≡ rosterAnswered refusal envelope
 unfolding after rosterOf
 roster-answered zero envelope = refl
 roster-answered (suc m) envelope = refl

@@ -9,9 +9,11 @@ use sets::SetI;
 ghost use mathlib.Core.Path.{_≡_};
 ghost use Prim.Native.Nat.{_+_};
 ghost use Rattle.answers.specs.Answers.{numberOf};
+ghost use Rattle.answers.specs.Tests.{answer};
 ghost use Rattle.sets.specs.SetI.{setI};
 ghost use Rattle.records.specs.Layout.{stretch, signatureBytes};
-ghost use Rattle.envelope.specs.Envelope.{headBytes, readTests, openTests};
+ghost use Rattle.envelope.specs.Envelope.{headBytes, readTests, openTests, rosterAnswered};
+ghost use Rattle.envelope.specs.Program.{programTests, envelopePart};
 ghost use Rattle.envelope.specs.Promises.{WritesEnvelope, Opens};
 
 // What reading and opening answer, with the team number and the roster's length, both 0 on refusal.
@@ -54,4 +56,27 @@ pub fn open(public: &[u8], envelope: &[u8]) -> Opened
     ensures { λ r. ⌜ Opens (openTests setI (now (public .entry)) (now (envelope .entry))) (now (envelope .entry)) (numberOf (r .answer)) (r .team) (r .len) ⌝ }
 {
     reading::opened(reading::test_open(public, envelope), envelope)
+}
+
+// Set I: opens an envelope and gives its roster, the stretch of the lent envelope, empty on refusal. An accepted roster may be empty too:
+// where the number or the team is wanted, `open` gives them, and `roster` gives this stretch for the length that it answers.
+pub fn open_roster<'a>(public: &[u8], envelope: &'a [u8]) -> &'a [u8]
+    ensures { λ r. ⌜ now r ≡ rosterAnswered (answer (openTests setI (now (public .entry)) (now (envelope .entry)))) (now (envelope .entry)) ⌝ }
+{
+    roster(envelope, open(public, envelope).len)
+}
+
+// Set I: opens an input that is a public record and then an envelope, as the program is given it.
+pub fn open_input(input: &[u8]) -> Opened
+    ensures { λ r. ⌜ Opens (programTests (now (input .entry))) (envelopePart (now (input .entry))) (numberOf (r .answer)) (r .team) (r .len) ⌝ }
+{
+    let end = records::public::public_bytes(SetI::numbers());
+    if input.len() < end {
+        return Opened {
+            answer: Answer::Length,
+            team: 0,
+            len: 0,
+        };
+    }
+    open(&input[..end], &input[end..])
 }

@@ -6,4 +6,5 @@ pub mod SizeLaws
 pub mod Secret
 pub mod SecretLaws
 pub mod Asks
+pub mod RoundTripLaws
 pub mod Promises

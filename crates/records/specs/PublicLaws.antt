@@ -1,5 +1,5 @@
--- Laws of the public record of a good set. What is written reads back: `public-t`, `public-allT`, `public-seedA`, `public-marked`, and
--- `public-reads`, that no test fails; what reads is what would be written: `public-again`.
+-- Laws of the public record of a good set. What is written reads back: `public-t`, `public-allT`, `public-seedA`, `public-marked`; what
+-- reads is what would be written: `public-again`. RoundTripLaws states both from the entries' tests.
 -- With them, laws of marks and of polynomials in a row, for all records.
 -- Assumes nothing.
 use mathlib.Core.Path.{_≡_, refl, sym, ap, ap₂, _∙_}
@@ -15,10 +15,7 @@ use Rattle.whole.specs.Below.{Below}
 use Rattle.whole.specs.BelowLaws.{below-more, below-part}
 use Rattle.whole.specs.Parts.{part-length, part-piece, part-last, part-part, parts-join, part-second}
 use Rattle.whole.specs.TableLaws.{joined-ext, joined-length, joined-part, joined-parts}
-use Rattle.answers.specs.Tests.{answer, AllPass}
-use Rattle.whole.specs.Every.{every}
 use Rattle.whole.specs.EveryLaws.{both-first, both-second, every-at, every-all}
-use Rattle.answers.specs.TestLaws.{all-pass, passes-all}
 use Rattle.whole.specs.Rows.{row-fits, row-within}
 use Rattle.packing.specs.Digits.{bytesFor, packed, unpacked}
 use Rattle.packing.specs.Laws.{packed-length, unpacked-length, unpacked-packed, packed-unpacked-whole}
@@ -26,7 +23,7 @@ use Rattle.sets.specs.declared.Numbers.{Numbers}
 use Rattle.sets.specs.Good.{Good}
 use Rattle.records.specs.Layout.{mark, marked, stretch, polynomial, tBytes, publicBytes}
 use Rattle.sets.specs.Limits.{seedBytes}
-use Rattle.records.specs.Public.{packedT, publicRecord, tOf, allT, seedAOf, tInRange, publicTests, readPublicTests}
+use Rattle.records.specs.Public.{packedT, publicRecord, tOf, allT, seedAOf, tInRange}
 
 -- ---- marks
 
@@ -90,6 +87,14 @@ module _ (s : Numbers) where
   unfolding allT
   allT-polynomial public i l = joined-part (s .k) (s .n) i (tOf s public) (λ j r. tOf-length public j) l
 
+  pub allT-length : (public : List ℕ) → length (allT s public) ≡ s .k * s .n
+  unfolding allT
+  allT-length public = joined-length (s .k) (s .n) (tOf s public) (λ i l. tOf-length public i)
+
+  pub seedAOf-length : (public : List ℕ) → length public ≡ publicBytes s → length (seedAOf s public) ≡ seedBytes
+  unfolding seedAOf
+  seedAOf-length public e = part-length (2 + s .k * tBytes s) seedBytes public (omega arith)
+
   -- t_(i + 1) stands in the stretch of all packed t
   stretch-inside : (public : List ℕ) (i : ℕ) → i < s .k
       → stretch (tBytes s * i) (tBytes s) (stretch 2 (s .k * tBytes s) public) ≡ stretch (2 + tBytes s * i) (tBytes s) public
@@ -137,24 +142,6 @@ module _ (s : Numbers) (t seedA : List ℕ) where
       public-allT =
           joined-ext (s .k) (tOf s (publicRecord s t seedA)) (λ i. polynomial (s .n) i t) public-t ∙ joined-parts (s .k) (s .n) t long
 
-      -- reading it into outputs of the right lengths passes
-      pub public-reads : length seedA ≡ seedBytes → answer (readPublicTests s (publicRecord s t seedA) (s .k * s .n) seedBytes) ≡ 0
-      unfolding readPublicTests publicTests AllPass
-      public-reads e =
-          all-pass (readPublicTests s (publicRecord s t seedA) (s .k * s .n) seedBytes) (
-            eq-eqb (s .k * s .n) _ refl,
-            (
-              refl,
-              (
-                eq-eqb _ _ (publicRecord-length s t seedA long e),
-                (
-                  public-marked,
-                  (below-tInRange s _ (rw public-allT below), tt),
-                ),
-              ),
-            ),
-          )
-
 -- ---- what reads is what would be written
 
 module _ (s : Numbers) (good : Good s) where
@@ -191,11 +178,3 @@ module _ (s : Numbers) (good : Good s) where
         ∙ parts-join 2 (s .k * tBytes s) seedBytes public)
         ∙ parts-join 0 2 (s .k * tBytes s + seedBytes) public
         ∙ take-all (publicBytes s) public (native.Mathlib.Nat.le-of-eq long)
-
--- a record that is read without refusal
-pub public-read-again : (s : Numbers) (public : List ℕ) (tLength seedLength : ℕ) → Good s → Below 256 public
-    → answer (readPublicTests s public tLength seedLength) ≡ 0 → publicRecord s (allT s public) (seedAOf s public) ≡ public
-unfolding readPublicTests publicTests AllPass every
-public-read-again s public tLength seedLength good bytes e =
-    let p = passes-all (readPublicTests s public tLength seedLength) refl e in
-    public-again s good public bytes (eqb-true _ _ (p .1 .1 .0)) (p .1 .1 .1 .0)

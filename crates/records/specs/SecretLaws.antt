@@ -1,6 +1,6 @@
 -- Laws of the secret record. What is written reads back: `secret-s`, `secret-e`, `secret-seedA`, `secret-seedY`, `secret-g`,
--- `secret-marked`, and `secret-reads`, that no test fails; what reads is what would be written: `secret-again`. And s and e as stretches
--- that are lent: `s-lent`, `e-lent`.
+-- `secret-marked`; what reads is what would be written: `secret-again`. RoundTripLaws states both from the entries' tests. And s and e as
+-- stretches that are lent: `s-lent`, `e-lent`.
 -- Assumes nothing.
 use mathlib.Core.Path.{_≡_, refl, sym, ap, ap₂, _∙_}
 use mathlib.Core.Bool.{true}
@@ -10,15 +10,11 @@ use native.Mathlib.Nat.{add-zero, add-assoc, le-of-eq}
 use native.Mathlib.Omega.{arith}
 use lib.ListN.{length, take, drop, length-append}
 use lib.Seq.{take-all}
-use borrow.Author.Tests.{eq-eqb, eqb-true}
 use Rattle.whole.specs.Parts.{part-length, part-piece, part-last, part-second, parts-join}
-use Rattle.answers.specs.Tests.{answer, AllPass}
-use Rattle.whole.specs.Every.{every}
-use Rattle.answers.specs.TestLaws.{all-pass, passes-all}
 use Rattle.sets.specs.declared.Numbers.{Numbers}
 use Rattle.records.specs.Layout.{mark, marked, stretch, secretBytes}
 use Rattle.sets.specs.Limits.{seedBytes, digestBytes}
-use Rattle.records.specs.Secret.{secretRecord, sOf, allE, secretSeedA, secretSeedY, secretG, inByteRange, byteTests, secretTests, readSecretTests}
+use Rattle.records.specs.Secret.{secretRecord, sOf, allE, secretSeedA, secretSeedY, secretG}
 use Rattle.records.specs.Asks.{SecretLengths}
 use Rattle.records.specs.PublicLaws.{marked-mark, marked-front}
 
@@ -76,37 +72,6 @@ module _ (set : Numbers) (s e seedA seedY g : List ℕ) where
         ∙ part-second seedBytes seedBytes digestBytes seedA (seedY ++ g) (long .seedA-long)
         ∙ part-last seedBytes digestBytes seedY g (long .seedY-long) (long .g-long)
 
-    -- reading it into outputs of the right lengths passes
-    pub secret-reads : inByteRange s ≡ true → inByteRange e ≡ true
-        → answer (readSecretTests set (secretRecord set s e seedA seedY g) (set .n) (set .k * set .n) seedBytes seedBytes digestBytes) ≡ 0
-    unfolding readSecretTests secretTests byteTests AllPass
-    secret-reads h l =
-        all-pass (readSecretTests set (secretRecord set s e seedA seedY g) (set .n) (set .k * set .n) seedBytes seedBytes digestBytes) (
-          eq-eqb (set .n) _ refl,
-          (
-            eq-eqb (set .k * set .n) _ refl,
-            (
-              refl,
-              (
-                refl,
-                (
-                  refl,
-                  (
-                    eq-eqb _ _ secretRecord-length,
-                    (
-                      secret-marked,
-                      (
-                        ap inByteRange secret-s ∙ h,
-                        (ap inByteRange secret-e ∙ l, tt),
-                      ),
-                    ),
-                  ),
-                ),
-              ),
-            ),
-          ),
-        )
-
 -- ---- what reads is what would be written
 
 module _ (set : Numbers) (secret : List ℕ) (long : length secret ≡ secretBytes set) where
@@ -141,15 +106,6 @@ module _ (set : Numbers) (secret : List ℕ) (long : length secret ≡ secretByt
 
       m : ℕ
       m = set .k * set .n
-
--- a record that is read without refusal
-pub secret-read-again : (set : Numbers) (secret : List ℕ) (sLength eLength seedALength seedYLength gLength : ℕ)
-    → answer (readSecretTests set secret sLength eLength seedALength seedYLength gLength) ≡ 0
-    → secretRecord set (sOf set secret) (allE set secret) (secretSeedA set secret) (secretSeedY set secret) (secretG set secret) ≡ secret
-unfolding readSecretTests secretTests byteTests AllPass every
-secret-read-again set secret sLength eLength seedALength seedYLength gLength e =
-    let p = passes-all (readSecretTests set secret sLength eLength seedALength seedYLength gLength) refl e .1 .1 .1 .1 .1 in
-    secret-again set secret (eqb-true _ _ (p .0)) (p .1 .0)
 
 -- ---- s and e_1..e_k as a function is lent them, by where they start and end
 

@@ -1,1 +1,2 @@
-pub mod Program
+pub mod Held
+pub mod HeldLaws

@@ -1,25 +1,17 @@
 // The roster program. Standard input is a public record, then an envelope. It writes one line: REFUSED with the number, or the team
 // number and the roster's length of an envelope that is accepted.
-use answers::Answer;
 use envelope::Opened;
-use sets::SetI;
+ghost use lib.ListN.{take};
 ghost use Rattle.answers.specs.Answers.{numberOf};
-ghost use Rattle.envelope.specs.Promises.{Opens};
-ghost use Rattle.roster.specs.Program.{programTests, envelopePart};
+ghost use Rattle.roster.specs.Held.{Buffered, OpensWhole};
 
-// Opens what follows the public record in the input.
-fn open_input(input: &[u8]) -> Opened
-    ensures { λ r. ⌜ Opens (programTests (now (input .entry))) (envelopePart (now (input .entry))) (numberOf (r .answer)) (r .team) (r .len) ⌝ }
+// Opens what the buffer holds of the input, its first n bytes. If they are the input's first `bufferBytes`, or all that it has, what comes
+// back is that of the whole input.
+fn open_held(buffer: &[u8], n: usize) -> Opened
+    requires { ⌜ Buffered (now buffer) n ⌝ }
+    ensures { λ r. ⌜ OpensWhole (take n (now (buffer .entry))) (numberOf (r .answer)) (r .team) (r .len) ⌝ }
 {
-    let end = records::public::public_bytes(SetI::numbers());
-    if input.len() < end {
-        return Opened {
-            answer: Answer::Length,
-            team: 0,
-            len: 0,
-        };
-    }
-    envelope::open(&input[..end], &input[end..])
+    envelope::open_input(&buffer[..n])
 }
 
 // Writes the line of a refusal.
@@ -49,10 +41,10 @@ fn print_answer(opened: Opened) {
     }
 }
 
-// The buffer holds the public record and more than any envelope has. What is longer is answered by what is held of it, as the whole
-// would be: `held-decides` in specs/Program.
+// Reads the input until it ends or the buffer is full, and writes the line of what is held. No contract can say what is read: that it is
+// the front of the input rests on `io::read_full`. A read that fails counts as the end.
 fn main() {
     let mut input = io::large_buffer();
     let n = io::read_full(0, &mut input);
-    print_answer(open_input(&input[..n]));
+    print_answer(open_held(&input, n));
 }

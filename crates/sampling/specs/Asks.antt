@@ -102,7 +102,7 @@ pub record NextA (s : Numbers) (d : DrawA) (places : ℕ) : Type 0 where
   pub needed : s .n ≤ d .need
   pub long : places ≡ s .n
 
--- ---- what is drawn, where it is multiplied
+-- ---- c, as the sparse product takes it
 
 -- c, as h positions below n with their signs
 pub record Terms (set : Numbers) (ps : List ℕ) (ss : List ℤ) : Type 0 where

@@ -1,6 +1,7 @@
 pub mod Candidates
 pub mod Values
 pub mod Positions
+pub mod Loops
 pub mod Stretches
 pub mod Streams
 pub mod Lent
@@ -14,6 +15,7 @@ pub mod FreeLaws
 pub mod PositionsLaws
 pub mod SparseLaws
 pub mod StreamsLaws
+pub mod LoopsLaws
 pub mod SpongeLaws
 pub mod DrawALaws
 pub mod Residues

@@ -16,13 +16,9 @@ use Rattle.sampling.specs.Candidates.{candidates}
 use Rattle.sampling.specs.Values.{values, lessOf}
 use Rattle.sampling.specs.Positions.{Drawn, placesOf}
 
--- the mark of stream j, 1 to 7: 53 11 to 53 17 in set I
-abbrev pub mark : Numbers → ℕ → List ℕ
-mark s j = streamMark (s .digit) j
-
--- the first n bytes of stream j
+-- the first n bytes of stream j, 1 to 7, whose marks are 53 11 to 53 17 in set I
 abbrev pub stream : Numbers → ℕ → List ℕ → ℕ → List ℕ
-stream s j inputs n = shake256 (mark s j ++ inputs) n
+stream s j inputs n = shake256 (streamMark (s .digit) j ++ inputs) n
 
 -- a number as two bytes, low first
 abbrev pub twoBytes : ℕ → List ℕ

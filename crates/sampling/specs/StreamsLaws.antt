@@ -28,7 +28,8 @@ use Rattle.sets.specs.Good.{Good}
 use Rattle.sampling.specs.Candidates.{held, candidates}
 use Rattle.sampling.specs.Values.{values, lessOf}
 use Rattle.sampling.specs.Positions.{Drawn, drawnCandidates, positionsOf, signsOf, AreDrawn, polynomialOf}
-use Rattle.sampling.specs.Streams.{mark, stream, twoBytes, allA, aOf, yOf, encOf}
+use Rattle.sets.specs.Marks.{streamMark}
+use Rattle.sampling.specs.Streams.{stream, twoBytes, allA, aOf, yOf, encOf}
 use Rattle.sampling.specs.Asks.{Terms}
 use Rattle.sampling.specs.CandidatesLaws.{candidates-length, candidates-below}
 use Rattle.sampling.specs.ValuesLaws.{values-length, values-below}
@@ -77,7 +78,7 @@ module _ (s : Numbers) (g : Good s) where
 
   pub allA-length : (seedA : List ℕ) → length (allA s seedA) ≡ s .k * s .n
   unfolding allA
-  allA-length seedA = drawn-enough (s .q) (s .k * s .n) 4 (s .«t_bits») (4 * (s .k * s .n)) (mark s 1 ++ seedA) (omega arith) (omega arith)
+  allA-length seedA = drawn-enough (s .q) (s .k * s .n) 4 (s .«t_bits») (4 * (s .k * s .n)) (streamMark (s .digit) 1 ++ seedA) (omega arith) (omega arith)
 
   pub allA-below : (seedA : List ℕ) → Below (s .q) (allA s seedA)
   unfolding allA
@@ -94,7 +95,7 @@ module _ (s : Numbers) (g : Good s) where
   unfolding yOf
   yOf-length rand counter =
       length-map (drawnY s rand counter) (lessOf (s .b))
-      ∙ drawn-enough (2 * s .b + 1) (s .n) 3 (s .«z_bits») (2 * s .n) (mark s 2 ++ (rand ++ twoBytes counter)) (omega arith) (omega arith)
+      ∙ drawn-enough (2 * s .b + 1) (s .n) 3 (s .«z_bits») (2 * s .n) (streamMark (s .digit) 2 ++ (rand ++ twoBytes counter)) (omega arith) (omega arith)
 
   -- past its end y reads 0
   pub yOf-size : (rand : List ℕ) (counter i : ℕ) → natAbs (getD (yOf s rand counter) i (pos 0)) ≤ s .b
@@ -107,7 +108,7 @@ module _ (s : Numbers) (g : Good s) where
   pub encOf-length : (c′ : List ℕ) → length (encOf s c′) ≡ s .h
   unfolding encOf
   encOf-length c′ =
-      positions-length (s .n) (s .h) [] (drawnEnc s c′) (omega (arith, g .h-drawn, drawn-length (s .«position_bits») (stream s 7 c′ (3 * 256)), held-stream 3 256 (mark s 7 ++ c′) (omega arith)))
+      positions-length (s .n) (s .h) [] (drawnEnc s c′) (omega (arith, g .h-drawn, drawn-length (s .«position_bits») (stream s 7 c′ (3 * 256)), held-stream 3 256 (streamMark (s .digit) 7 ++ c′) (omega arith)))
 
   drawn-all-inside : (c′ : List ℕ) → Below (s .n) (positionsOf (drawnEnc s c′))
   drawn-all-inside c′ =

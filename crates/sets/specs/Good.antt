@@ -1,20 +1,20 @@
 -- What a set's numbers have to satisfy: all that the code and the theorems ask of them. Each comment says what it is for.
--- A set is added by proving them of its numbers, by a case of `Known`, and by an arm where scratch is made. Theorems on 10, and on when signing answers 8, ask more: the bound on the high part,
--- which is computed from q and d.
+-- A set is added by proving them of its numbers, by a case of `Known`, and by an arm where scratch is made.
 -- Assumes nothing: these are definitions.
 use mathlib.Core.Path.{_≡_}
-use Prim.Native.Nat.{_+_, _*_, _-_, _%_, _^_, _≤_, _<_}
+use Prim.Native.Nat.{ℕ, _+_, _*_, _-_, _/_, _%_, _^_, _≤_, _<_}
 use Rattle.sets.specs.declared.Numbers.{Numbers}
+
+-- the bound that q and d give on the size of a high part
+abbrev pub highMost : Numbers → ℕ
+highMost s = (s .q / 2 + 2 ^ s .d / 2) / 2 ^ s .d
 
 pub record Good (s : Numbers) : Type 0 where
   -- sampling: the low bits of a candidate are a position, each position below n, and a position fits two bytes
   pub n-power : s .n ≡ 2 ^ s .«position_bits»
   pub position-fits : s .«position_bits» ≤ 16
-  -- records: at least one t_i; their number is small enough for lengths in bytes
-  pub k-some : 0 < s .k
+  -- records: the t_i are few enough for lengths in bytes
   pub k-few : s .k ≤ 255
-  -- rounding: q is odd, so that the centred range is symmetric
-  pub q-odd : s .q % 2 ≡ 1
   -- ring, rounding: sums of two residues fit 32 bits, products 62
   pub q-small : s .q < 2 ^ 31
   -- ring: a signed byte is at most q in size
@@ -47,5 +47,7 @@ pub record Good (s : Numbers) : Type 0 where
   pub e-fits : s .e < 2 ^ 31
   pub d-some : 0 < s .d
   pub d-fits : s .d < 31
+  -- signing, checking: a high part fits a signed byte, so that none answers 10
+  pub high-fits : highMost s ≤ 127
   -- marks: the digit is one of a hexadecimal number's
   pub digit-fits : s .digit < 16

@@ -28,9 +28,7 @@ setI-good =
     record {
       n-power = refl;
       position-fits = lit≤ tt;
-      k-some = lit< tt;
       k-few = lit≤ tt;
-      q-odd = refl;
       q-small = lit< tt;
       q-large = lit≤ tt;
       t-fits = lit≤ tt;
@@ -40,11 +38,11 @@ setI-good =
       t-whole = refl;
       y-fits = lit≤ tt;
       y-once = lit≤ tt;
+      y-bytes = lit≤ tt;
       b-small = lit≤ tt;
       z-some = lit≤ tt;
       z-fits = lit< tt;
       z-byte = lit≤ tt;
-      y-bytes = lit≤ tt;
       z-whole = refl;
       h-inside = lit≤ tt;
       h-drawn = lit≤ tt;
@@ -52,6 +50,7 @@ setI-good =
       e-fits = lit< tt;
       d-some = lit< tt;
       d-fits = lit< tt;
+      high-fits = lit≤ tt;
       digit-fits = lit< tt;
     }
 

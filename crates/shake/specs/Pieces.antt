@@ -106,11 +106,6 @@ unfolding stateAfter squeezeNext
 sound-after zero s h = h
 sound-after (suc n) s h = sound-after n (squeezeNext s) (sound-passed _ (s .place) true (h .within))
 
-pub stateAfter-add : (m n : ℕ) (s : Sponge) → stateAfter (m + n) s ≡ stateAfter n (stateAfter m s)
-unfolding stateAfter
-stateAfter-add zero n s = rw zero-add
-stateAfter-add (suc m) n s = rw suc-add (stateAfter-add m n (squeezeNext s))
-
 pub bytesOf-add : (m n : ℕ) (s : Sponge) → bytesOf (m + n) s ≡ bytesOf m s ++ bytesOf n (stateAfter m s)
 unfolding bytesOf stateAfter
 bytesOf-add zero n s = rw zero-add

@@ -1,5 +1,5 @@
--- Laws of the signature record of a good set. What is written reads back: `signature-marked`, `signature-z`, `signature-challenge`, and
--- `signature-reads`, that no test fails; what reads is what would be written: `signature-again`.
+-- Laws of the signature record of a good set. What is written reads back: `signature-marked`, `signature-z`, `signature-challenge`; what
+-- reads is what would be written: `signature-again`. RoundTripLaws states both from the entries' tests.
 -- Assumes nothing.
 use mathlib.Core.Path.{_≡_, refl, sym, ap, ap₂, _∙_}
 use mathlib.Core.Bool.{true}
@@ -10,17 +10,14 @@ use native.Mathlib.Omega.{arith}
 use lib.IntN.{ℤ, pos, natAbs}
 use lib.ListN.{length, getD, length-append, length-map}
 use lib.Seq.{take-all}
-use borrow.Author.Tests.{eq-eqb, eqb-true, leb-true}
+use borrow.Author.Tests.{leb-true}
 use Rattle.whole.specs.Int.{abs-le-to}
 use Rattle.whole.specs.Below.{Below}
 use Rattle.whole.specs.BelowLaws.{below-part}
 use Rattle.whole.specs.Parts.{part-length, part-piece, part-last, part-second, parts-join}
 use Rattle.whole.specs.Twos.{InBits, signed, twos}
 use Rattle.whole.specs.TwosLaws.{twos-all-below}
-use Rattle.whole.specs.Every.{every}
 use Rattle.whole.specs.EveryLaws.{every-at}
-use Rattle.answers.specs.Tests.{answer, AllPass}
-use Rattle.answers.specs.TestLaws.{all-pass, passes-all}
 use Rattle.rounding.specs.Tests.{zPasses}
 use Rattle.packing.specs.Digits.{bytesFor, packed, unpacked}
 use Rattle.packing.specs.Laws.{packed-length, unpacked-length, unpacked-below, unpacked-packed, packed-unpacked-whole}
@@ -29,7 +26,7 @@ use Rattle.sets.specs.declared.Numbers.{Numbers}
 use Rattle.sets.specs.Good.{Good}
 use Rattle.records.specs.Layout.{mark, marked, stretch, zBytes, signatureBytes}
 use Rattle.sets.specs.Limits.{seedBytes}
-use Rattle.signatures.specs.Signature.{signatureRecord, zOf, challengeOf, zInRange, signatureTests, readSignatureTests}
+use Rattle.signatures.specs.Signature.{signatureRecord, zOf, challengeOf, zInRange}
 use Rattle.records.specs.PublicLaws.{marked-mark, marked-front}
 
 -- ---- the range of z
@@ -66,6 +63,10 @@ module _ (s : Numbers) where
       length-map (unpacked (s .«z_bits») (s .n) (stretch 2 (zBytes s) signature)) (signed (s .«z_bits»))
       ∙ unpacked-length (s .«z_bits») (s .n) (stretch 2 (zBytes s) signature)
 
+  pub challengeOf-length : (signature : List ℕ) → length signature ≡ signatureBytes s → length (challengeOf s signature) ≡ seedBytes
+  unfolding challengeOf
+  challengeOf-length signature e = part-length (2 + zBytes s) seedBytes signature (omega arith)
+
 -- ---- what is written reads back
 
 module _ (s : Numbers) (z : List ℤ) (c′ : List ℕ) where
@@ -97,15 +98,6 @@ module _ (s : Numbers) (z : List ℤ) (c′ : List ℕ) where
           (unpacked-packed (s .«z_bits») (map (twos (s .«z_bits»)) z) (twos-all-below (s .«z_bits») z))
           ∙ signed-twos-all (s .«z_bits») z (omega (arith, good .z-byte)) (zInRange-inside s z good inside)
 
-      -- reading it into outputs of the right lengths passes
-      pub signature-reads : length c′ ≡ seedBytes → answer (readSignatureTests s (signatureRecord s z c′) (s .n) seedBytes) ≡ 0
-      unfolding readSignatureTests signatureTests AllPass
-      signature-reads e =
-          all-pass (readSignatureTests s (signatureRecord s z c′) (s .n) seedBytes) (
-            eq-eqb (s .n) _ refl,
-            (refl, (eq-eqb _ _ (signatureRecord-length s z c′ long e), (signature-marked, (ap (zInRange s) signature-z ∙ inside, tt)))),
-          )
-
 -- ---- what reads is what would be written
 
 module _ (s : Numbers) (good : Good s) (signature : List ℕ) (bytes : Below 256 signature) (long : length signature ≡ signatureBytes s) where
@@ -131,11 +123,3 @@ module _ (s : Numbers) (good : Good s) (signature : List ℕ) (bytes : Below 256
       (ap (λ (p : List ℕ). p ++ stretch (2 + zBytes s) seedBytes signature) packed-zOf ∙ parts-join 2 (zBytes s) seedBytes signature)
       ∙ parts-join 0 2 (zBytes s + seedBytes) signature
       ∙ take-all (signatureBytes s) signature (le-of-eq long)
-
--- a record that is read without refusal
-pub signature-read-again : (s : Numbers) (signature : List ℕ) (zLength cLength : ℕ) → Good s → Below 256 signature
-    → answer (readSignatureTests s signature zLength cLength) ≡ 0 → signatureRecord s (zOf s signature) (challengeOf s signature) ≡ signature
-unfolding readSignatureTests signatureTests AllPass every
-signature-read-again s signature zLength cLength good bytes e =
-    let p = passes-all (readSignatureTests s signature zLength cLength) refl e .1 .1 in
-    signature-again s good signature bytes (eqb-true _ _ (p .0)) (p .1 .0)

@@ -3,3 +3,4 @@ pub mod SearchLaws
 pub mod Sign
 pub mod Promises
 pub mod Asks
+pub mod OwnKeyLaws

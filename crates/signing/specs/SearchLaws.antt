@@ -1,6 +1,6 @@
--- What the search finds: the smallest counter whose attempt passes, and none exactly where every attempt fails.
+-- What the search finds: the smallest counter whose attempt passes, and none only where every attempt fails.
 -- Assumes nothing.
-use mathlib.Core.Path.{_≡_, refl, ap, subst, _∙_}
+use mathlib.Core.Path.{_≡_, refl, subst, _∙_}
 use mathlib.Core.Logic.{⊎-elim}
 use mathlib.Core.List.{List}
 use Prim.Native.Nat.{ℕ, zero, suc, _+_, _≤_, _<_}
@@ -75,14 +75,6 @@ unfolding searchFrom
 none-fails attempt zero from e j l m = absurd (omega arith)
 none-fails attempt (suc left) from e j l m =
     none-step attempt left from (none-fails attempt left (suc from)) (attempt from) refl e j l m
-
--- and where every attempt fails, none is found
-pub fails-none : (attempt : ℕ → Outcome) (left from : ℕ) → ((j : ℕ) → from ≤ j → j < from + left → attempt j ≡ fails) → searchFrom attempt left from ≡ none
-unfolding searchFrom
-fails-none attempt zero from h = refl
-fails-none attempt (suc left) from h =
-    ap (λ (o : Outcome). next o from (searchFrom attempt left (suc from))) (h from (omega arith) (omega arith))
-    ∙ fails-none attempt left (suc from) (λ j l m. h j (omega arith) (omega arith))
 
 -- the search ends in an overflow only where an attempt overflows
 pub overflow-somewhere : (attempt : ℕ → Outcome) (left from : ℕ) → searchFrom attempt left from ≡ overflow → (j : ℕ) × (attempt j ≡ overflows)

@@ -1,7 +1,8 @@
 -- Signing: the tests of its inputs, then the search. What comes back: the number, the counter, and the signature record.
 -- Assumes nothing: these are definitions.
+use mathlib.Core.Path.{_≡_}
 use mathlib.Core.List.{List, _∷_}
-use Prim.Native.Nat.{ℕ, zero, suc}
+use Prim.Native.Nat.{ℕ, zero, suc, _≤_}
 use lib.Dec.{eqb, leb}
 use lib.ListN.{length}
 use Rattle.answers.specs.Tests.{Test, _orElse_}
@@ -12,7 +13,7 @@ use Rattle.records.specs.Layout.{marked, secretBytes, signatureBytes}
 use Rattle.records.specs.Secret.{sOf, allE, secretSeedY}
 use Rattle.signatures.specs.Signature.{signatureRecord}
 use Rattle.keys.specs.Key.{secretsTests}
-use Rattle.attempts.specs.Attempt.{keyOf, attempt}
+use Rattle.attempts.specs.Attempt.{Outcome, keyOf, attempt}
 use Rattle.signing.specs.Search.{Found, found, none, overflow, search}
 
 -- ---- the tests
@@ -33,38 +34,35 @@ unfoldable pub signTests : Numbers → List ℕ → ℕ → ℕ → ℕ → ℕ 
 signTests set secret messageLength rLength budget signatureLength =
     (eqb signatureLength (signatureBytes set) orElse 1) ∷ beginTests set secret messageLength rLength budget
 
+-- ---- what a signer is lent beside its key, as document 01 names it
+
+-- a message within the limit, r of 32 bytes, a budget from 1 to 1,024, and a signature buffer of the named length
+pub record Asked (set : Numbers) (message r : List ℕ) (budget : ℕ) (signature : List ℕ) : Type 0 where
+  pub message-short : length message ≤ messageLimit
+  pub r-long : length r ≡ seedBytes
+  pub budget-some : 1 ≤ budget
+  pub budget-few : budget ≤ budgetLimit
+  pub signature-long : length signature ≡ signatureBytes set
+
 -- ---- what comes back
+
+-- attempt number j of signing a message with a secret record and r
+abbrev pub signAttempts : Numbers → List ℕ → List ℕ → List ℕ → ℕ → Outcome
+signAttempts set secret message r = attempt set (keyOf set secret) (messageDigest set message) (randOf set (secretSeedY set secret) r (messageDigest set message))
 
 -- the search that signing makes
 unfoldable pub signSearch : Numbers → List ℕ → List ℕ → List ℕ → ℕ → Found
-signSearch set secret message r budget =
-    search (attempt set (keyOf set secret) (messageDigest set message) (randOf set (secretSeedY set secret) r (messageDigest set message))) budget
+signSearch set secret message r budget = search (signAttempts set secret message r) budget
 
--- what a search gives back
-abbrev pub foundNumber : Found → ℕ
-foundNumber (found counter z c′) = 0
-foundNumber none = 8
-foundNumber overflow = 10
+-- the number, the counter, and what the signature buffer holds
+pub record Back : Type 0 where
+  pub number : ℕ
+  pub counter : ℕ
+  pub signature : List ℕ
 
-abbrev pub foundCounter : Found → ℕ
-foundCounter (found counter z c′) = counter
-foundCounter none = 0
-foundCounter overflow = 0
-
-abbrev pub foundSignature : Numbers → Found → List ℕ → List ℕ
-foundSignature set (found counter z c′) old = signatureRecord set z c′
-foundSignature set none old = old
-foundSignature set overflow old = old
-
--- what signing gives back, where `refusal` is the number of its tests
-abbrev pub signNumber : ℕ → Found → ℕ
-signNumber zero f = foundNumber f
-signNumber (suc refusal) f = suc refusal
-
-abbrev pub signCounter : ℕ → Found → ℕ
-signCounter zero f = foundCounter f
-signCounter (suc refusal) f = 0
-
-abbrev pub signSignature : Numbers → ℕ → Found → List ℕ → List ℕ
-signSignature set zero f old = foundSignature set f old
-signSignature set (suc refusal) f old = old
+-- what signing gives back, where `refusal` is the number of its tests, `f` what its search finds and `old` what the buffer held
+abbrev pub givesBack : Numbers → ℕ → Found → List ℕ → Back
+givesBack set zero (found counter z c′) old = record { number = 0; counter = counter; signature = signatureRecord set z c′ }
+givesBack set zero none old = record { number = 8; counter = 0; signature = old }
+givesBack set zero overflow old = record { number = 10; counter = 0; signature = old }
+givesBack set (suc refusal) f old = record { number = suc refusal; counter = 0; signature = old }

@@ -1,12 +1,12 @@
--- `roster::open_input` meets its contract. Assumes nothing.
+-- `envelope::open_input` meets its contract. Assumes nothing.
 use borrow.Author.Needs.{needs}
 use mathlib.Core.Path.{sym}
 use native.Mathlib.Omega.{arith}
 use lib.Seq.{length-take-le}
 use Rattle.sets.specs.SetI.{good-i}
-use Rattle.roster.proofs.Steps.{too-short, opens-input}
-use Rattle.roster.proofs.open_input.Statement.{statement}
-use Rattle.roster.proofs.open_input.Tie as tie
+use Rattle.envelope.proofs.InputSteps.{too-short, opens-input}
+use Rattle.envelope.proofs.open_input.Statement.{statement}
+use Rattle.envelope.proofs.open_input.Tie as tie
 
 pub open-input-spec : {M : Type 1} → statement M
 open-input-spec =
