@@ -1,7 +1,7 @@
 -- Demand 1: the answer is n exactly if the test with the number n is the first that fails, in the order in which the entry's tests stand; where
 -- the numbers rise that is the lowest number that applies; and a refusal leaves each output as it was.
--- An entry answers `answer` of its list of tests and leaves `after` that answer in each output, so the laws are of lists of tests. `entries` is the
--- table of the entries with their lists, and `demand-1` says it of all of them. Signing's search stands in its list as two tests more, 10 and
+-- An entry's promise says `Answered` of its list of tests, and `Output` of that list for each output. `entries` is the table of the entries with
+-- their lists, and `demand-1` says the first part of all of them; `untouched` is the last. Signing's search stands in its list as two tests more, 10 and
 -- then 8 (`sign-answered`); what signing leaves on refusal is `sign-untouched`. Opening and reading an envelope test in an order of their own, and the
 -- program makes one test before opening's.
 -- Assumes nothing.
@@ -14,7 +14,7 @@ use native.Mathlib.Omega.{arith}
 use lib.IntN.{ℤ}
 use lib.ListN.{length}
 use Rattle.whole.specs.Every.{every}
-use Rattle.answers.specs.Tests.{Test, _orElse_, answer, after, AllPass, numbered, Answered}
+use Rattle.answers.specs.Tests.{Test, _orElse_, answer, AllPass, numbered, Answered, Output}
 use Rattle.answers.specs.TestLaws.{all-pass, passes-all, answer-before, answer-past, after-refused}
 use Rattle.sets.specs.declared.Numbers.{Numbers}
 use Rattle.sampling.specs.Lent.{testsA, testsY, testsEnc}
@@ -24,16 +24,16 @@ use Rattle.signatures.specs.Signature.{signatureTests, readSignatureTests, writ
 use Rattle.keys.specs.Key.{secretsTests, makeKeyTests}
 use Rattle.signing.specs.Search.{Found, found, none, overflow}
 use Rattle.signing.specs.Sign.{beginTests, signTests, signSearch, givesBack}
-use Rattle.signing.specs.Promises.{Signs}
+use Rattle.signing.specs.Promises.{Gives, Signs}
 use Rattle.checking.specs.Check.{inputTests, highTests, hashTests, workTests, digestTests, checkTests}
 use Rattle.envelope.specs.Envelope.{headTests, readTests, openTests, writeTests}
 use Rattle.envelope.specs.Program.{programTests}
 use Rattle.demands.specs.FirstTest.{FirstFailing, first-failing, failing-first, rises, are-rising, AtLeast, lowest}
 use Rattle.demands.specs.Facts.{_and_}
 
--- a refusal leaves an output as it was
-pub untouched : {A : Type 0} (ts : List Test) (number : ℕ) (new old : A) → answer ts ≡ suc number → after (answer ts) new old ≡ old
-untouched ts number new old e = after-refused number new old e
+-- a refusal leaves an output as it was: a buffer as the caller lent it, a team number and a length 0
+pub untouched : {A : Type 0} {ts : List Test} {number : ℕ} {new old now : A} → Answered ts (suc number) → Output ts new old now → now ≡ old
+untouched {number = number} {new} {old} a o = o .is ∙ after-refused number new old (sym (a .is))
 
 -- ---- signing
 
@@ -60,12 +60,16 @@ sign-answered set secret message r old signature budget number counter signs =
     go (suc m) e f = sym (answer-before m tests (foundTests f) e)
 
 -- on refusal the signature buffer is as it was, and the counter is 0
-pub sign-untouched : (set : Numbers) (refusal : ℕ) (f : Found) (number : ℕ) (old : List ℕ) → givesBack set refusal f old .number ≡ suc number
-    → (givesBack set refusal f old .signature ≡ old) × (givesBack set refusal f old .counter ≡ 0)
-sign-untouched set zero (found counter z c′) number old h = absurd (omega arith)
-sign-untouched set zero none number old h = (refl, refl)
-sign-untouched set zero overflow number old h = (refl, refl)
-sign-untouched set (suc refusal) f number old h = (refl, refl)
+pub sign-untouched : (set : Numbers) (secret message r old signature : List ℕ) (budget number counter : ℕ) → Signs set secret message r budget old signature (suc number) counter
+    → (signature ≡ old) × (counter ≡ 0)
+sign-untouched set secret message r old signature budget number counter signs =
+    go (answer (signTests set secret (length message) (length r) budget (length old))) (signSearch set secret message r budget) signs
+  where
+    go : (refusal : ℕ) (f : Found) → Gives set refusal f old signature (suc number) counter → (signature ≡ old) × (counter ≡ 0)
+    go zero (found at z c′) g = absurd (omega (arith, g .number-is))
+    go zero none g = (g .signature-is, g .counter-is)
+    go zero overflow g = (g .signature-is, g .counter-is)
+    go (suc refusal) f g = (g .signature-is, g .counter-is)
 
 -- ---- the entries
 
