@@ -1,5 +1,5 @@
--- No high part leaves a signed byte in a good set: no attempt overflows, and neither signing nor checking ever answers 10. In set I 41 is the
--- largest.
+-- No high part leaves a signed byte in a good set: no attempt overflows, and neither signing nor checking ever answers 10. In set I a high part is at
+-- most 41 in size.
 -- Assumes nothing.
 use mathlib.Core.Path.{_≡_, refl, sym, _∙_}
 use mathlib.Core.Bool.{Bool, true, false, cond}
