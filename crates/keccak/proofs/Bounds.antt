@@ -1,14 +1,15 @@
 -- The permutation keeps its lanes below 2 ^ 64.
 -- Assumes nothing.
 use mathlib.Core.List.{List, [], _∷_}
-use Prim.Native.Nat.{ℕ, zero, suc, _+_, _-_, _*_, _/_, _%_, _^_, _<_}
-use native.Mathlib.Nat.{mod-lt, div-le-self, lt-of-le-of-lt}
+use Prim.Native.Nat.{ℕ, zero, suc, _+_, _-_, _*_, _/_, _%_, _^_, _≤_, _<_}
+use native.Mathlib.Nat.{mod-lt, div-le-self, lt-of-le-of-lt, lt-of-lt-of-le, pow-suc}
 use native.Mathlib.Omega.{arith}
+use lib.Arith.{digits-lt}
 use lib.Bits.{xor-lt, and-lt, or-lt}
 use lib.Dec.{lit<}
 use lib.ListN.{getD, set, take}
-use lib.Pow.{pow-pos}
-use Rattle.keccak.specs.Constants.{flip, register, rc, roundConstant}
+use lib.Pow.{pow-pos, pow-mono}
+use Rattle.keccak.specs.Constants.{flip, register, rc, constantBits, roundConstant}
 use Rattle.keccak.specs.Offsets.{offset}
 use Rattle.keccak.specs.State.{lane, table, lanes, rotl, complement}
 use Rattle.keccak.specs.Steps.{thetaC, theta, rho, pi, chi, iota, round, rounds, keccakF}
@@ -58,23 +59,20 @@ bits-register : (i : ℕ) → Below 2 (register i)
 bits-register zero = bits-start
 bits-register (suc i) = bits-trunc (bits-flip 6 (bits-flip 5 (bits-flip 4 (bits-flip 0 (bits-shift (bits-register i))))))
 
-bit-rc : (t : ℕ) → rc t < 2
+pub bit-rc : (t : ℕ) → rc t < 2
 unfolding rc
 bit-rc t = bits-register (t % 255) .at 0
 
+-- the bits of a constant before its j-th lie below the place of that one
+pub below-place : (i j : ℕ) → constantBits j i < 2 ^ (2 ^ j - 1)
+below-place i zero = lit< tt
+below-place i (suc j) =
+    let wide : suc (2 ^ j - 1) ≤ 2 ^ suc j - 1 = omega (arith, pow-pos j, pow-suc 2 j) in
+    lt-of-lt-of-le (omega (arith, digits-lt (bit-rc (j + 7 * i)) (below-place i j), pow-suc 2 (2 ^ j - 1))) (pow-mono wide)
+
 below-constant : (i : ℕ) → roundConstant i < 2 ^ 64
 unfolding roundConstant
-below-constant i =
-    omega (
-      arith,
-      bit-rc (0 + 7 * i),
-      bit-rc (1 + 7 * i),
-      bit-rc (2 + 7 * i),
-      bit-rc (3 + 7 * i),
-      bit-rc (4 + 7 * i),
-      bit-rc (5 + 7 * i),
-      bit-rc (6 + 7 * i),
-    )
+below-constant i = omega (arith, below-place i 6, bit-rc (6 + 7 * i))
 
 -- each step keeps the lanes below 2 ^ 64
 

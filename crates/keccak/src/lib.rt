@@ -1,34 +1,8 @@
 // Keccak-f[1600], the permutation of FIPS 202, on 25 lanes of 64 bits: lane (x, y) stands at x + 5 * y.
+mod constants;
+
 ghost use mathlib.Core.Path.{_≡_};
 ghost use Rattle.keccak.specs.Steps.{theta, rho, pi, chi, addConstant, keccakF};
-
-// RC of the rounds 0 to 23.
-const RC: [u64; 24] = [
-    0x0000000000000001,
-    0x0000000000008082,
-    0x800000000000808a,
-    0x8000000080008000,
-    0x000000000000808b,
-    0x0000000080000001,
-    0x8000000080008081,
-    0x8000000000008009,
-    0x000000000000008a,
-    0x0000000000000088,
-    0x0000000080008009,
-    0x000000008000000a,
-    0x000000008000808b,
-    0x800000000000008b,
-    0x8000000000008089,
-    0x8000000000008003,
-    0x8000000000008002,
-    0x8000000000000080,
-    0x000000000000800a,
-    0x800000008000000a,
-    0x8000000080008081,
-    0x8000000000008080,
-    0x0000000080000001,
-    0x8000000080008008,
-];
 
 // Algorithm 1: c0 to c4 are the columns C[x], and d0 to d4 the D[x].
 fn theta(a: [u64; 25]) -> [u64; 25]
@@ -234,11 +208,11 @@ fn round(a: [u64; 25], constant: u64) -> [u64; 25]
 pub fn permute(lanes: [u64; 25]) -> [u64; 25]
     ensures { λ r. ⌜ r ≡ keccakF lanes ⌝ }
 {
-    let table = RC;
+    let constants = constants::all();
     let mut a = lanes;
     let mut i: usize = 0;
     while i < 24 {
-        let b = round(a, table[i]);
+        let b = round(a, constants[i]);
         a = b;
         i += 1;
     }
