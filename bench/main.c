@@ -19,6 +19,8 @@ void speed_multiply(const uint32_t *a, size_t a_count, const uint32_t *b, size_t
 #define POLYNOMIALS 100
 #define MESSAGES 50
 #define MESSAGE 59
+#define ROSTERS 10
+#define ROSTER ROSTER_LIMIT
 
 // What came back from signing a message.
 typedef struct {
@@ -26,6 +28,13 @@ typedef struct {
     uint16_t counter;
     uint8_t answer;
 } Signed;
+
+// What came back from opening an envelope.
+typedef struct {
+    size_t len;
+    uint16_t team;
+    uint8_t answer;
+} Opened;
 
 // What is measured on: each side has its own.
 typedef struct {
@@ -37,6 +46,8 @@ typedef struct {
     uint8_t messages[MESSAGES][MESSAGE], r[MESSAGES][SEED];
     Signed tried[MESSAGES], found[MESSAGES];
     uint8_t checked[MESSAGES];
+    uint8_t envelopes[ROSTERS][ENVELOPE(ROSTER)], sent[ROSTERS];
+    Opened opened[ROSTERS];
 } Bench;
 
 static Bench ours, theirs;
@@ -150,6 +161,36 @@ static void c_check(int i) {
     theirs.checked[i] = plain_check(theirs.public_record, theirs.messages[i], MESSAGE, theirs.found[i].signature);
 }
 
+// A team number for each roster. The rosters are bytes that the lines above have.
+static void ours_send(int i) {
+    uint8_t signature[SIGNATURE];
+    uint16_t counter, team = 6553 * i;
+    ours.sent[i] = maesikkong_sign_roster(ours.secret_record, SECRET, team, ours.bytes + i, ROSTER, ours.r[i], SEED, BUDGET_LIMIT, signature,
+                                          SIGNATURE, &counter);
+    ours.sent[i] |= maesikkong_write_envelope(team, ours.bytes + i, ROSTER, signature, SIGNATURE, ours.envelopes[i], ENVELOPE(ROSTER));
+}
+
+static void c_send(int i) {
+    theirs.sent[i] = plain_send(theirs.secret_record, 6553 * i, theirs.bytes + i, ROSTER, theirs.r[i], BUDGET_LIMIT, theirs.envelopes[i]);
+}
+
+static void open_ours(const uint8_t *envelope, size_t envelope_len, Opened *to) {
+    size_t start;
+    to->answer = maesikkong_open_envelope(ours.public_record, PUBLIC, envelope, envelope_len, &to->team, &start, &to->len);
+}
+
+static void open_theirs(const uint8_t *envelope, size_t envelope_len, Opened *to) {
+    to->answer = plain_open(theirs.public_record, envelope, envelope_len, &to->team, &to->len);
+}
+
+static void ours_open(int i) {
+    open_ours(ours.envelopes[i], ENVELOPE(ROSTER), &ours.opened[i]);
+}
+
+static void c_open(int i) {
+    open_theirs(theirs.envelopes[i], ENVELOPE(ROSTER), &theirs.opened[i]);
+}
+
 typedef struct {
     const char *name;
     void (*ours)(int i);
@@ -173,6 +214,8 @@ static const Line LINES[] = {
     {"one attempt: signing with budget 1", ours_attempt, c_attempt, MESSAGES, 1, 4},
     {"a whole signature, mean of 50", ours_signature, c_signature, MESSAGES, 1, 3},
     {"checking", ours_check, c_check, MESSAGES, 1, 4},
+    {"the longest roster sent, mean of 10", ours_send, c_send, ROSTERS, 1, 3},
+    {"opening its envelope", ours_open, c_open, ROSTERS, 1, 10},
 };
 
 #define COUNT (sizeof LINES / sizeof LINES[0])
@@ -216,8 +259,10 @@ static int same_works(void) {
     int done = ours.made == 0;
     for (int i = 0; i < MESSAGES; i++)
         done = done && ours.found[i].answer == 0 && ours.found[i].counter > 0 && ours.checked[i] == 0;
+    for (int i = 0; i < ROSTERS; i++)
+        done = done && ours.sent[i] == 0 && ours.opened[i].answer == 0 && ours.opened[i].team == 6553 * i && ours.opened[i].len == ROSTER;
     if (!done)
-        fprintf(stderr, "bench: a key, a signature or its check was refused\n");
+        fprintf(stderr, "bench: a key, a signature, its check or an envelope was refused\n");
     return done;
 }
 
@@ -240,6 +285,25 @@ static int same_changed(void) {
         there.answer = plain_sign(changed.secret_record, changed.messages[0], MESSAGE, changed.r[0], i, there.signature, &there.counter);
         if (a != b || c != d || memcmp(&here, &there, sizeof here) != 0) {
             fprintf(stderr, "bench: change %d: the two answer %d %d, %d %d, %d %d\n", i, a, b, c, d, here.answer, there.answer);
+            return 0;
+        }
+    }
+    return 1;
+}
+
+// Envelopes with one bit changed, in the head, the roster and the signature record, and of other lengths.
+static int same_envelopes(void) {
+    static uint8_t envelope[ENVELOPE(ROSTER) + 1];
+    for (int i = 0; i < 24; i++) {
+        Opened here = {0}, there = {0};
+        size_t at = i < 6 ? (size_t)i : (size_t)i * (ENVELOPE(ROSTER) / 24);
+        size_t len = i % 8 == 6 ? ENVELOPE(ROSTER) - 1 : i % 8 == 7 ? ENVELOPE(ROSTER) + 1 : ENVELOPE(ROSTER);
+        memcpy(envelope, ours.envelopes[0], ENVELOPE(ROSTER));
+        envelope[at] ^= 1;
+        open_ours(envelope, len, &here);
+        open_theirs(envelope, len, &there);
+        if (here.answer != there.answer || here.team != there.team || here.len != there.len || here.answer == 0) {
+            fprintf(stderr, "bench: envelope %d: the two answer %d %d\n", i, here.answer, there.answer);
             return 0;
         }
     }
@@ -290,7 +354,7 @@ int main(void) {
     memcpy(ours.messages, ours.out + 10 * N, sizeof ours.messages);
     memcpy(ours.r, ours.out + 20 * N, sizeof ours.r);
     theirs = ours;
-    if (!same_at_edges() || !same_works() || !same_changed()) {
+    if (!same_at_edges() || !same_works() || !same_changed() || !same_envelopes()) {
         fprintf(stderr, "bench: THE TWO DIFFER\n");
         return 1;
     }

@@ -1,5 +1,5 @@
-// Plain C to measure against: SHAKE256, one polynomial, and qTESLA-p-I's key making, signing and checking, for a machine whose lowest
-// byte comes first.
+// Plain C to measure against: SHAKE256, one polynomial, and qTESLA-p-I's key making, signing, checking and envelopes, for a machine whose
+// lowest byte comes first.
 #ifndef PLAIN_H
 #define PLAIN_H
 
@@ -27,6 +27,8 @@
 #define PUBLIC (2 + K * T_BYTES + SEED)
 #define SECRET (2 + N + K * N + 2 * SEED + DIGEST)
 #define SIGNATURE (2 + Z_BYTES + SEED)
+#define HEAD 6
+#define ENVELOPE(roster_len) (HEAD + (roster_len) + SIGNATURE)
 
 // Where the parts of the secret record start.
 #define AT_S 2
@@ -37,6 +39,7 @@
 
 #define A_VALUES (K * N)
 #define MESSAGE_LIMIT 32768
+#define ROSTER_LIMIT 32766
 #define BUDGET_LIMIT 1024
 
 // ---- plain_shake.c
@@ -121,5 +124,12 @@ int plain_make_key(const uint8_t s[N], const uint8_t e[K * N], const uint8_t see
 int plain_sign(const uint8_t secret_record[SECRET], const uint8_t *message, size_t message_len, const uint8_t r[SEED], uint32_t budget,
                uint8_t signature[SIGNATURE], uint16_t *counter);
 int plain_check(const uint8_t public_record[PUBLIC], const uint8_t *message, size_t message_len, const uint8_t signature[SIGNATURE]);
+
+// ---- plain_envelope.c
+
+// Signs a roster under its team number, and writes the envelope of both with the signature.
+int plain_send(const uint8_t secret_record[SECRET], uint16_t team, const uint8_t *roster, size_t roster_len, const uint8_t r[SEED],
+               uint32_t budget, uint8_t *envelope);
+int plain_open(const uint8_t public_record[PUBLIC], const uint8_t *envelope, size_t envelope_len, uint16_t *team, size_t *roster_len);
 
 #endif

@@ -27,7 +27,7 @@ enum {
     MAESIKKONG_DONE = 0,        /* done or accepted */
     MAESIKKONG_LENGTH = 1,      /* a length is not the one named, or a stream holds too few candidates */
     MAESIKKONG_MARK = 2,        /* a mark is wrong */
-    MAESIKKONG_MESSAGE = 3,     /* message over 32,768 bytes, or the envelope's L over it */
+    MAESIKKONG_MESSAGE = 3,     /* message over 32,768 bytes, or roster or the envelope's L over 32,766 */
     MAESIKKONG_BUDGET = 4,      /* budget outside 1 to 1,024 */
     MAESIKKONG_VALUE = 5,       /* a secret byte is -128, or a t coefficient is not from 0 to q - 1 */
     MAESIKKONG_CHECK_S = 6,     /* checkS does not pass: the 25 largest |s| sum to more than 554 */
@@ -51,6 +51,7 @@ enum {
     MAESIKKONG_SIGNATURE_BYTES = 2594,
     MAESIKKONG_ENVELOPE_BYTES = 2600, /* and the roster's length */
     MAESIKKONG_MESSAGE_LIMIT = 32768,
+    MAESIKKONG_ROSTER_LIMIT = 32766,
     MAESIKKONG_BUDGET_LIMIT = 1024
 };
 
@@ -69,6 +70,14 @@ uint8_t maesikkong_make_key(const uint8_t *s, size_t s_len, const uint8_t *e, si
 uint8_t maesikkong_sign(const uint8_t *secret_record, size_t secret_len, const uint8_t *message, size_t message_len, const uint8_t *r,
                         size_t r_len, uint32_t budget, uint8_t *signature, size_t signature_len, uint16_t *counter);
 
+/* Signs a roster for an envelope: what is signed is the team number in two bytes, low first, and then the roster, which need not be joined.
+ * Answers and writes what maesikkong_sign does on the joined bytes.
+ * secret_record 5,226 bytes, roster up to 32,766, r 32, signature 2,594, budget 1 to 1,024. Answers 0 to 8.
+ * signature: the signature record; on a refusal untouched. *counter: as in signing; on a refusal 0. */
+uint8_t maesikkong_sign_roster(const uint8_t *secret_record, size_t secret_len, uint16_t team, const uint8_t *roster, size_t roster_len,
+                               const uint8_t *r, size_t r_len, uint32_t budget, uint8_t *signature, size_t signature_len,
+                               uint16_t *counter);
+
 /* Checks the signature record on the message with the public record.
  * public_record 14,882 bytes, message up to 32,768, signature 2,594. Answers 0, 1, 2, 3, 5, 9, 11. */
 uint8_t maesikkong_check(const uint8_t *public_record, size_t public_len, const uint8_t *message, size_t message_len,
@@ -76,8 +85,11 @@ uint8_t maesikkong_check(const uint8_t *public_record, size_t public_len, const 
 
 /* ---- envelopes */
 
-/* Writes the envelope of a team number, a roster and the signature record on the roster. The signature's hash is not checked.
- * roster up to 32,768 bytes, signature 2,594, envelope 2,600 + roster_len. Answers 0, 1, 2, 3, 9.
+/* Envelopes begin with 51 15. Those of the earlier mark 51 14, whose team number was not signed, are refused with 2. */
+
+/* Writes the envelope of a team number, a roster and the signature record on both, as maesikkong_sign_roster makes it. The signature's hash is
+ * not checked.
+ * roster up to 32,766 bytes, signature 2,594, envelope 2,600 + roster_len. Answers 0, 1, 2, 3, 9.
  * envelope: the envelope; on a refusal untouched. */
 uint8_t maesikkong_write_envelope(uint16_t team, const uint8_t *roster, size_t roster_len, const uint8_t *signature, size_t signature_len,
                                   uint8_t *envelope, size_t envelope_len);
@@ -87,9 +99,9 @@ uint8_t maesikkong_write_envelope(uint16_t team, const uint8_t *roster, size_t r
  * 2,594 bytes that follow it. On a refusal all three are 0. */
 uint8_t maesikkong_read_envelope(const uint8_t *envelope, size_t envelope_len, uint16_t *team, size_t *roster_start, size_t *roster_len);
 
-/* Opens an envelope: reads it and checks its signature on the roster with the public record.
+/* Opens an envelope: reads it and checks its signature on its own team number and roster with the public record.
  * public_record 14,882 bytes, envelope of any length. Answers 0, 1, 2, 3, 5, 9, 11.
- * *team, *roster_start, *roster_len: as in reading; on a refusal all three are 0. The team number is not signed. */
+ * *team, *roster_start, *roster_len: as in reading; on a refusal all three are 0. */
 uint8_t maesikkong_open_envelope(const uint8_t *public_record, size_t public_len, const uint8_t *envelope, size_t envelope_len,
                                  uint16_t *team, size_t *roster_start, size_t *roster_len);
 

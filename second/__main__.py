@@ -1,7 +1,8 @@
 """The second program: qTESLA-p-I records, signatures and roster envelopes.
 
-It is written from the scope paper alone and shares nothing with the proved
-crates, so that the two can be compared. From the repository's root:
+It is written from the scope paper and its change requests alone and shares
+nothing with the proved crates, so that the two can be compared. From the
+repository's root:
 
     python3 second selfcheck    runs its own assertions; the last line counts them
     python3 second roster       the roster program: standard input to one line
@@ -15,8 +16,9 @@ sets.py has the numbers of a set, answers.py the numbers that come back,
 sums.py the arithmetic, streams.py SHAKE256 and what is drawn from it,
 records.py, scheme.py and envelope.py the entries, program.py the line,
 vectors.py the vector program's files, with sampling_vectors.py,
-scheme_vectors.py and roster_inputs.py. checks/ holds the assertions, compare/
-the comparison in bulk with the library that scripts/face builds.
+scheme_vectors.py, envelope_vectors.py and roster_inputs.py. checks/ holds the
+assertions, compare/ the comparison in bulk with the library that scripts/face
+builds.
 """
 
 import os

@@ -1,4 +1,7 @@
-"""The envelope: written, read and opened.
+"""The envelope: its roster signed, and itself written, read and opened.
+
+What is signed is the team number's two bytes, as they stand in the envelope,
+and then the roster.
 
 Reading and opening answer (number, team, start, length): the roster is the
 stretch of the envelope from start on, and the signature record follows it.
@@ -7,8 +10,8 @@ On refusal team, start and length are 0.
 
 from answers import DONE, LENGTH, MARK, MESSAGE, Z
 from records import ENVELOPE, SIGNATURE, has_mark, signature_z
-from scheme import check
-from sets import MARK_BYTES, MESSAGE_LIMIT
+from scheme import check, sign
+from sets import MARK_BYTES, ROSTER_LIMIT
 from sums import z_passes
 
 TEAM_AT = MARK_BYTES
@@ -20,6 +23,16 @@ def envelope_length(numbers, roster_len):
     return HEAD_BYTES + roster_len + numbers.signature_length
 
 
+def two_bytes(value):
+    """A number in two bytes, low first, as team numbers and L stand in the envelope."""
+    return value.to_bytes(2, "little")
+
+
+def sign_roster(numbers, secret, team, roster, r, budget, signature_len):
+    """Answers as signing does, on the team number's two bytes and then the roster."""
+    return sign(numbers, secret, two_bytes(team) + roster, r, budget, signature_len)
+
+
 def write_envelope(numbers, team, roster, signature, envelope_len):
     """Answers (number, envelope). team is a number of two bytes."""
     if (len(signature) != numbers.signature_length
@@ -27,12 +40,12 @@ def write_envelope(numbers, team, roster, signature, envelope_len):
         return LENGTH, None
     if not has_mark(numbers, signature, SIGNATURE):
         return MARK, None
-    if len(roster) > MESSAGE_LIMIT:
+    if len(roster) > ROSTER_LIMIT:
         return MESSAGE, None
     if not z_passes(numbers, signature_z(numbers, signature)):
         return Z, None
-    head = team.to_bytes(2, "little") + len(roster).to_bytes(2, "little")
-    return DONE, numbers.record_mark(ENVELOPE) + head + roster + signature
+    head = numbers.record_mark(ENVELOPE) + two_bytes(team) + two_bytes(len(roster))
+    return DONE, head + roster + signature
 
 
 def named_length(envelope):
@@ -46,7 +59,7 @@ def form_refusal(numbers, envelope):
         return LENGTH
     if not has_mark(numbers, envelope, ENVELOPE):
         return MARK
-    if named_length(envelope) > MESSAGE_LIMIT:
+    if named_length(envelope) > ROSTER_LIMIT:
         return MESSAGE
     if len(envelope) != envelope_length(numbers, named_length(envelope)):
         return LENGTH
@@ -82,12 +95,12 @@ def read_envelope(numbers, envelope):
 
 
 def open_envelope(numbers, public, envelope):
-    """The four tests, then checking with the public record."""
+    """The four tests, then checking with the public record what is signed."""
     refusal = form_refusal(numbers, envelope)
     if refusal != DONE:
         return refused(refusal)
     roster, signature = roster_and_signature(envelope)
-    refusal = check(numbers, public, roster, signature)
+    refusal = check(numbers, public, envelope[TEAM_AT:LENGTH_AT] + roster, signature)
     if refusal != DONE:
         return refused(refusal)
     return contents(envelope)

@@ -8,8 +8,9 @@ from answers import DONE, LENGTH, MARK, VALUE, Z
 from sets import DIGEST_BYTES, MARK_BYTES, SEED_BYTES, bytes_for
 from sums import t_passes, z_passes
 
-# The last hexadecimal digit of each record's mark.
-PUBLIC, SECRET, SIGNATURE, ENVELOPE = range(1, 5)
+# The last hexadecimal digit of each record's mark. 4 was that of an envelope
+# whose team number was not signed.
+PUBLIC, SECRET, SIGNATURE, ENVELOPE = 1, 2, 3, 5
 
 MINUS_128 = 0x80
 

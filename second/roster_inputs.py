@@ -9,8 +9,8 @@ import random
 import subprocess
 
 from checks.damage import with_bit_flipped, with_field
-from checks.samples import make_sample_key, secrets, sign_whole
-from envelope import envelope_length, write_envelope
+from checks.envelopes import OLD_MARK
+from checks.samples import make_sample_key, secrets, signed_envelope
 from program import line
 from sets import SET_I
 
@@ -28,9 +28,7 @@ def signed_roster():
     s, e = secrets(SET_I, rng)
     seed_a, seed_y, r = rng.randbytes(32), rng.randbytes(32), rng.randbytes(32)
     public, secret = make_sample_key(SET_I, s, e, seed_a, seed_y)[1]
-    signature = sign_whole(SET_I, secret, ROSTER, r)[2]
-    envelope = write_envelope(SET_I, TEAM, ROSTER, signature, envelope_length(SET_I, len(ROSTER)))[1]
-    return public, envelope
+    return public, signed_envelope(SET_I, secret, TEAM, ROSTER, r)
 
 
 def kept():
@@ -47,10 +45,12 @@ def kept():
         "refused_1_envelope_short": public + envelope[:-1],
         "refused_1_bytes_after": public + envelope + b"\n",
         "refused_2_mark": public + b"\x51\x13" + envelope[2:],
-        "refused_3_length": public + envelope[:4] + b"\x01\x80" + envelope[6:],
+        "refused_2_old_mark": public + OLD_MARK + envelope[2:],
+        "refused_3_length": public + envelope[:4] + b"\xff\x7f" + envelope[6:],
         "refused_5_t": with_field(public, 2, 29, 0, SET_I.q) + envelope,
         "refused_9_z": in_signature(lambda s: with_field(s, 2, 20, 7, 523734)),
         "refused_11_roster_changed": public + with_bit_flipped(envelope, 40),
+        "refused_11_team_changed": public + with_bit_flipped(envelope, 2),
     }
 
 
@@ -62,7 +62,7 @@ def long_inputs():
         "long": public + envelope + tail,
         "long, another mark": public + b"\x51\x11" + envelope[2:] + tail,
         "long, L too large": public + envelope[:4] + b"\xff\xff" + envelope[6:] + tail,
-        "longest L, one byte more": public + envelope[:4] + b"\x00\x80" + bytes(32768 + SIGNATURE_BYTES + 1),
+        "longest L, one byte more": public + envelope[:4] + b"\xfe\x7f" + bytes(32766 + SIGNATURE_BYTES + 1),
     }
 
 

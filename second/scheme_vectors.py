@@ -1,7 +1,8 @@
 """The vector program's cases of whole keys, signatures and checks, and of the three records.
 
-The program keeps a memory between these cases. A place is the start and the length of a stretch of
-it. The three records have their places, and what the calls are given has others:
+The program keeps a memory between these cases and those of envelope_vectors.py. A place is the
+start and the length of a stretch of it. The three records and the envelope have their places, and
+what the calls are given has others:
 
     W start, bytes                                            writes into the memory
     K places of secret, public, s, e, seed_a, seed_y          makes a key
@@ -10,20 +11,32 @@ it. The three records have their places, and what the calls are given has others
     P places of public, t, seed_a                 Q lengths   writes, reads the public record
     E places of secret, s, e, seed_a, seed_y, g   F lengths   the secret record
     Z places of signature, z, c'                  Y lengths   the signature record
+    R places of signature, secret, roster, r; budget, team    signs a roster
+    V places of envelope, roster, signature; team             writes an envelope
+    N place of envelope                                       reads it
+    O places of public, envelope                              opens it
 
 Where a record is read, its place stands before the lengths of the outputs. The line has the
 answer's number, after signing the counter in two bytes, and SHAKE256 of each output after the call:
 of a record's whole room where it is written. Outputs that are read into are full of bytes A5 before.
+After reading or opening an envelope it has the number, the team number in two bytes and SHAKE256 of
+two stretches: after reading of the roster and of the signature record, after opening of the roster
+twice, by the length that comes back and by the entry that gives the roster itself. On refusal the
+roster is empty, and the signature record's stretch starts after the head. None of them goes on past
+the envelope's end.
 """
 
 import random
 from contextlib import ExitStack, contextmanager
-from itertools import combinations
+from itertools import chain, combinations, groupby
 
+import records
 from answers import (BUDGET, CHECK_E, CHECK_S, DONE, HASH, LENGTH, MARK, MESSAGE, NO_COUNTER,
                      VALUE, Z)
 from cases import UNTOUCHED, case, hashed, number as number_bytes
-from records import (MINUS_128, pack, pack_signed, read_public, read_secret, read_signature,
+from envelope import (HEAD_BYTES, envelope_length, open_envelope, read_envelope, sign_roster,
+                      two_bytes, write_envelope)
+from records import (MINUS_128, cut, pack, pack_signed, read_public, read_secret, read_signature,
                      signed_bytes, unpack, unpack_signed, write_public, write_secret,
                      write_signature)
 from scheme import check, make_key, sign
@@ -31,12 +44,14 @@ from sets import (BUDGET_LIMIT, DIGEST_BYTES, MARK_BYTES, MESSAGE_LIMIT, SEED_BY
                   bytes_for)
 from sums import check_e, check_s, sum_of_largest
 
-ROOM = 16384             # of each record
-PUBLIC, SECRET, SIGNATURE = RECORDS = (65536, 65536 + ROOM, 65536 + 2 * ROOM)
+PUBLIC, SECRET, SIGNATURE, ENVELOPE = range(65536, 65536 + 4 * 16384, 16384)
+ROOMS = {PUBLIC: 16384, SECRET: 16384, SIGNATURE: 16384, ENVELOPE: 40960}
+KINDS = {PUBLIC: records.PUBLIC, SECRET: records.SECRET, SIGNATURE: records.SIGNATURE,
+         ENVELOPE: records.ENVELOPE}   # in their marks
 MEMORY = 524288
 N, KN = SET_I.n, SET_I.k * SET_I.n
 
-# Where each value starts in the memory. PUBLIC, SECRET and SIGNATURE are where the records do.
+# Where each value starts in the memory. PUBLIC, SECRET, SIGNATURE and ENVELOPE are where those do.
 MESSAGE_AT = 64          # before it is room for the piece
 R_AT = 33000
 S_AT = 34000
@@ -66,8 +81,9 @@ class Machine:
 
     def __init__(self):
         self.memory = bytearray(UNTOUCHED * MEMORY)
-        self.lengths = dict(zip(RECORDS, (SET_I.public_length, SET_I.secret_length,
-                                          SET_I.signature_length)))   # lent of each record
+        self.lengths = {PUBLIC: SET_I.public_length, SECRET: SET_I.secret_length,
+                        SIGNATURE: SET_I.signature_length,
+                        ENVELOPE: envelope_length(SET_I, 0)}   # lent of each
         self.counter = 0   # of the last signature
         self.cases = []
 
@@ -116,7 +132,7 @@ class Machine:
         """Takes what a call wrote into a record. Answers SHAKE256 of its room after the call."""
         if number == DONE:
             self.memory[record:record + len(made)] = made
-        return hashed(self.stretch((record, ROOM)))
+        return hashed(self.stretch((record, ROOMS[record])))
 
     # The calls. Each answers its number.
 
@@ -132,8 +148,16 @@ class Machine:
         number, self.counter, made = sign(SET_I, self.record(SECRET), self.stretch(message),
                                           self.stretch(r), budget, self.room(SIGNATURE))
         self.case(b"S", [self.place(SIGNATURE), self.place(SECRET), message, r], number,
-                  self.counter.to_bytes(2, "little"), self.after(SIGNATURE, number, made),
-                  also=[budget])
+                  two_bytes(self.counter), self.after(SIGNATURE, number, made), also=[budget])
+        return number
+
+    def sign_roster(self, r, roster, budget, team):
+        number, self.counter, made = sign_roster(SET_I, self.record(SECRET), team,
+                                                 self.stretch(roster), self.stretch(r), budget,
+                                                 self.room(SIGNATURE))
+        self.case(b"R", [self.place(SIGNATURE), self.place(SECRET), roster, r], number,
+                  two_bytes(self.counter), self.after(SIGNATURE, number, made),
+                  also=[budget, team])
         return number
 
     def check(self, message):
@@ -155,10 +179,16 @@ class Machine:
         return self.wrote(b"Z", [z, c], SIGNATURE,
                           write_signature(SET_I, values, self.stretch(c), self.room(SIGNATURE)))
 
-    def wrote(self, letter, places, record, answered):
+    def write_envelope(self, roster, team):
+        return self.wrote(b"V", [roster, self.place(SIGNATURE)], ENVELOPE,
+                          write_envelope(SET_I, team, self.stretch(roster),
+                                         self.record(SIGNATURE), self.room(ENVELOPE)),
+                          also=[team])
+
+    def wrote(self, letter, places, record, answered, also=()):
         number, made = answered
         self.case(letter, [self.place(record), *places], number,
-                  self.after(record, number, made))
+                  self.after(record, number, made), also=also)
         return number
 
     def read_public(self, *lengths):
@@ -180,6 +210,22 @@ class Machine:
         outputs = outputs or [UNTOUCHED * (length * size)
                               for length, size in zip(lengths, sizes)]
         self.case(letter, [self.place(record)], number, *map(hashed, outputs), also=lengths)
+        return number
+
+    def read_envelope(self):
+        envelope = self.record(ENVELOPE)
+        number, team, _, length = read_envelope(SET_I, envelope)
+        roster, signature = cut(envelope[HEAD_BYTES:], length, SET_I.signature_length)
+        self.case(b"N", [self.place(ENVELOPE)], number, two_bytes(team), hashed(roster),
+                  hashed(signature))
+        return number
+
+    def open_envelope(self):
+        envelope = self.record(ENVELOPE)
+        number, team, start, length = open_envelope(SET_I, self.record(PUBLIC), envelope)
+        roster = envelope[start:start + length]
+        self.case(b"O", [self.place(PUBLIC), self.place(ENVELOPE)], number, two_bytes(team),
+                  hashed(roster), hashed(roster))
         return number
 
 
@@ -222,10 +268,11 @@ def flipped(number, record, at):
         record + at, bytes([machine.memory[record + at] ^ 1]))
 
 
-def other_marks(record):
-    """Marks that differ in the first byte, in the second, and in both."""
-    first, second = SET_I.record_mark(RECORDS.index(record) + 1)
-    return [spoilt(MARK, record, bytes(mark))
+def other_marks(record, start=None):
+    """Marks that differ in the first byte, in the second, and in both: of the record, or of one of
+    its kind that starts elsewhere."""
+    first, second = SET_I.record_mark(KINDS[record])
+    return [spoilt(MARK, record if start is None else start, bytes(mark))
             for mark in ([first ^ 2, second], [first, second ^ 0x80], [second, first])]
 
 
@@ -258,13 +305,19 @@ def answered(machine, call, inputs, number, *wrongs):
         raise ValueError(f"{call.__name__} answered {got} and not {number}")
 
 
-def refusals(machine, call, inputs, wrongs):
-    """What is wrong, each alone, and then the first of each number by two: the lower counts."""
-    for wrong in wrongs:
+def refusals_in_order(machine, call, inputs, tests):
+    """What is wrong by each test, each alone, and then the first of each test by two: the earlier
+    test counts."""
+    for wrong in chain(*tests):
         answered(machine, call, inputs, wrong[0], wrong)
-    firsts = {number: (number, wrong) for number, wrong in reversed(wrongs)}
-    for one, other in combinations(sorted(firsts), 2):
-        answered(machine, call, inputs, one, firsts[one], firsts[other])
+    for one, other in combinations([test[0] for test in tests], 2):
+        answered(machine, call, inputs, one[0], one, other)
+
+
+def refusals(machine, call, inputs, wrongs):
+    """The same of a call whose tests have rising numbers: the lower counts."""
+    tests = [list(test) for _, test in groupby(wrongs, key=lambda wrong: wrong[0])]
+    refusals_in_order(machine, call, inputs, tests)
 
 
 # Secrets: polynomials of small coefficients.
@@ -290,10 +343,11 @@ def fullest(rng, *largest):
     return p
 
 
-def write_secrets(machine, rng, polynomials):
-    """s and e_1..e_k with fresh seeds into the memory."""
-    row = [v for p in polynomials for v in p]
+def new_key(machine, rng, polynomial):
+    """A key of such polynomials as s and e_1..e_k, with fresh seeds."""
+    row = [v for _ in range(1 + SET_I.k) for v in polynomial()]
     machine.write(S_AT, pack_signed(row, 8) + rng.randbytes(2 * SEED_BYTES))
+    answered(machine, machine.make_key, KEY, DONE)
 
 
 def minus_128(start):
@@ -355,8 +409,7 @@ def whole_cases(machine, rng):
     """Keys of ordinary secrets, with signatures on messages of several lengths."""
     machine.write(MESSAGE_AT, rng.randbytes(MESSAGE_LIMIT + 1))
     for lengths in ((0, 1, MESSAGE_LIMIT), (2, 135, 1000)):
-        write_secrets(machine, rng, [ordinary(rng) for _ in range(1 + SET_I.k)])
-        answered(machine, machine.make_key, KEY, DONE)
+        new_key(machine, rng, lambda: ordinary(rng))
         for length in lengths:
             signed_and_checked(machine, rng, length)
         long = dict(message=(MESSAGE_AT, MESSAGE_LIMIT + 1))
@@ -368,8 +421,7 @@ def whole_cases(machine, rng):
 def edge_cases(machine, rng):
     """Keys of the fullest secrets, and what is refused of them."""
     for largest in ((127, -127, 127, -127), (26,)):
-        write_secrets(machine, rng, [fullest(rng, *largest) for _ in range(1 + SET_I.k)])
-        answered(machine, machine.make_key, KEY, DONE)
+        new_key(machine, rng, lambda: fullest(rng, *largest))
         answered(machine, machine.check, CHECKING, HASH)   # the signature is another key's
         signed_and_checked(machine, rng, 40)
     refusals(machine, machine.make_key, KEY,
@@ -378,19 +430,19 @@ def edge_cases(machine, rng):
              + too_large(machine, S_AT))
 
 
-def signing_cases(machine):
+def signing_cases(machine, call, inputs, *too_long):
     """What signing refuses of the key that the records hold."""
-    wrongs = (other_lengths(dict(r=SIGNING["r"])) + other_rooms(SECRET, SET_I.secret_length)
+    wrongs = (other_lengths(dict(r=inputs["r"])) + other_rooms(SECRET, SET_I.secret_length)
               + other_rooms(SIGNATURE, SET_I.signature_length) + other_marks(SECRET)
-              + [given(MESSAGE, message=(MESSAGE_AT, MESSAGE_LIMIT + 1))]
+              + [given(MESSAGE, **other) for other in too_long]
               + [given(BUDGET, budget=budget) for budget in (0, 1025, 65536, 65537, 2**32 - 1)]
               + minus_128(SECRET + MARK_BYTES) + too_large(machine, SECRET + MARK_BYTES))
-    refusals(machine, machine.sign, SIGNING, wrongs)
-    answered(machine, machine.sign, SIGNING, DONE)
-    short = dict(SIGNING, budget=machine.counter - 1)
-    answered(machine, machine.sign, short, NO_COUNTER)
+    refusals(machine, call, inputs, wrongs)
+    answered(machine, call, inputs, DONE)
+    short = dict(inputs, budget=machine.counter - 1)
+    answered(machine, call, short, NO_COUNTER)
     for number, wrong in dict(wrongs).items():
-        answered(machine, machine.sign, short, number, (number, wrong))
+        answered(machine, call, short, number, (number, wrong))
 
 
 def checking_cases(machine, rng):
@@ -479,14 +531,13 @@ def signature_cases(machine, rng):
     answered(machine, machine.read_signature, READ_SIGNATURE, DONE)
 
 
-def scheme_cases():
-    rng, machine = random.Random("scheme_vectors"), Machine()
+def scheme_cases(machine):
+    rng = random.Random("scheme_vectors")
     blank_cases(machine)
     whole_cases(machine, rng)
     edge_cases(machine, rng)
-    signing_cases(machine)
+    signing_cases(machine, machine.sign, SIGNING, dict(message=(MESSAGE_AT, MESSAGE_LIMIT + 1)))
     checking_cases(machine, rng)
     public_cases(machine, rng)
     secret_cases(machine, rng)
     signature_cases(machine, rng)
-    return machine.cases

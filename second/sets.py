@@ -10,6 +10,7 @@ SEED_BYTES = 32       # seeds, r, rand and c'
 DIGEST_BYTES = 40     # the digest of a message and g
 MARK_BYTES = 2
 MESSAGE_LIMIT = 32768
+ROSTER_LIMIT = 32766  # of an envelope: two bytes of team number are signed with it
 BUDGET_LIMIT = 1024
 
 

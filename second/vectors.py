@@ -10,8 +10,8 @@ Here are the cases of the sponge, which stays between them:
     >   squeezes as many at once       )   squeezes them one at a time
     =   squeezes 136 bytes             .   begins anew with a blank sponge
 
-The others are in sampling_vectors.py and scheme_vectors.py, and the inputs of the roster program in
-roster_inputs.py.
+The others are in sampling_vectors.py, scheme_vectors.py and envelope_vectors.py, and the inputs of
+the roster program in roster_inputs.py.
 """
 
 import hashlib
@@ -20,8 +20,9 @@ import random
 
 import roster_inputs
 from cases import case, number
+from envelope_vectors import envelope_cases
 from sampling_vectors import sampling_cases
-from scheme_vectors import scheme_cases
+from scheme_vectors import Machine, scheme_cases
 
 BLOCK = 136
 
@@ -142,9 +143,17 @@ def sponge_cases():
     return [step for row in rows for step in row.steps]
 
 
+def memory_cases():
+    """Those over the program's memory, which stays between them."""
+    machine = Machine()
+    scheme_cases(machine)
+    envelope_cases(machine)
+    return machine.cases
+
+
 def files():
     """Each file's path below crates/, and its bytes."""
-    cases = [*sponge_cases(), *sampling_cases(), *scheme_cases()]
+    cases = [*sponge_cases(), *sampling_cases(), *memory_cases()]
     yield os.path.join("vectors", "stdin"), b"".join(given for given, _ in cases)
     yield os.path.join("vectors", "stdout"), b"".join(line.hex().encode() + b"\n"
                                                       for _, line in cases)

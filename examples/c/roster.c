@@ -1,12 +1,13 @@
-/* A desk makes a key, signs a roster and puts both into an envelope; a receiver opens it. Prints each answer, and exits with 1 if one is
- * not the expected one. */
+/* A desk makes a key and signs a message, which is checked. Then it signs a roster under its team number, and puts the number, the roster and
+ * the signature into an envelope; a receiver opens it. Prints each answer, and exits with 1 if one is not the expected one. */
 #include <stdio.h>
 #include <string.h>
 
 #include "maesikkong.h"
 
+static const char MESSAGE[] = "Radio check at noon\n";
 static const char ROSTER[] = "Saturday: Hana, Minjun\nSunday: Seoyeon, Jiho\n";
-enum { ROSTER_LEN = sizeof ROSTER - 1, TEAM = 119 };
+enum { MESSAGE_LEN = sizeof MESSAGE - 1, ROSTER_LEN = sizeof ROSTER - 1, TEAM = 119 };
 
 static uint8_t public_record[MAESIKKONG_PUBLIC_BYTES];
 static uint8_t secret_record[MAESIKKONG_SECRET_BYTES];
@@ -53,31 +54,49 @@ static void make_key(void) {
            MAESIKKONG_VALUE);
 }
 
-static void sign(void) {
+static void sign_and_check(void) {
     uint8_t r[MAESIKKONG_SEED_BYTES];
     uint16_t counter;
     from_name("r", r, sizeof r);
     expect("sign",
-           maesikkong_sign(secret_record, sizeof secret_record, (const uint8_t *)ROSTER, ROSTER_LEN, r, sizeof r,
+           maesikkong_sign(secret_record, sizeof secret_record, (const uint8_t *)MESSAGE, MESSAGE_LEN, r, sizeof r,
                            MAESIKKONG_BUDGET_LIMIT, signature, sizeof signature, &counter),
            MAESIKKONG_DONE);
     printf("  by counter %d\n", counter);
-}
-
-static void check(void) {
     expect("check",
-           maesikkong_check(public_record, sizeof public_record, (const uint8_t *)ROSTER, ROSTER_LEN, signature, sizeof signature),
+           maesikkong_check(public_record, sizeof public_record, (const uint8_t *)MESSAGE, MESSAGE_LEN, signature, sizeof signature),
            MAESIKKONG_DONE);
     expect("check with an empty message",
            maesikkong_check(public_record, sizeof public_record, NULL, 0, signature, sizeof signature), MAESIKKONG_HASH);
 }
 
-static void open_envelope(void) {
-    uint16_t team;
-    size_t start, len;
+static void write_envelope(void) {
+    uint8_t r[MAESIKKONG_SEED_BYTES];
+    uint16_t counter;
+    from_name("r of the roster", r, sizeof r);
+    expect("sign roster",
+           maesikkong_sign_roster(secret_record, sizeof secret_record, TEAM, (const uint8_t *)ROSTER, ROSTER_LEN, r, sizeof r,
+                                  MAESIKKONG_BUDGET_LIMIT, signature, sizeof signature, &counter),
+           MAESIKKONG_DONE);
+    printf("  by counter %d\n", counter);
     expect("write envelope",
            maesikkong_write_envelope(TEAM, (const uint8_t *)ROSTER, ROSTER_LEN, signature, sizeof signature, envelope, sizeof envelope),
            MAESIKKONG_DONE);
+}
+
+/* What is refused gives no team and no roster. */
+static void refused(const char *what) {
+    uint16_t team;
+    size_t start, len;
+    expect(what, maesikkong_open_envelope(public_record, sizeof public_record, envelope, sizeof envelope, &team, &start, &len),
+           MAESIKKONG_HASH);
+    expect("  team", team, 0);
+    expect("  length of the roster", len, 0);
+}
+
+static void open_envelope(void) {
+    uint16_t team;
+    size_t start, len;
     expect("open envelope",
            maesikkong_open_envelope(public_record, sizeof public_record, envelope, sizeof envelope, &team, &start, &len),
            MAESIKKONG_DONE);
@@ -86,17 +105,16 @@ static void open_envelope(void) {
     expect("  the roster differs", memcmp(envelope + start, ROSTER, ROSTER_LEN) != 0, 0);
     printf("%.*s", (int)len, (const char *)envelope + start);
     envelope[start] ^= 1;
-    expect("open envelope with another roster",
-           maesikkong_open_envelope(public_record, sizeof public_record, envelope, sizeof envelope, &team, &start, &len),
-           MAESIKKONG_HASH);
-    expect("  team", team, 0);
-    expect("  length of the roster", len, 0);
+    refused("open envelope with another roster");
+    envelope[start] ^= 1;
+    envelope[2] ^= 1;
+    refused("open envelope with another team number");
 }
 
 int main(void) {
     make_key();
-    sign();
-    check();
+    sign_and_check();
+    write_envelope();
     open_envelope();
     return failures ? 1 : 0;
 }

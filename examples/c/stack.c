@@ -30,6 +30,11 @@ static uint8_t sign(void) {
                            &counter);
 }
 
+static uint8_t sign_roster(void) {
+    return maesikkong_sign_roster(secret_record, sizeof secret_record, 119, roster, LEN, seed, sizeof seed, 1024, signature,
+                                  sizeof signature, &counter);
+}
+
 static uint8_t check(void) {
     return maesikkong_check(public_record, sizeof public_record, roster, LEN, signature, sizeof signature);
 }
@@ -87,6 +92,7 @@ static const struct {
     {"make_key", make_key, 12288},
     {"sign", sign, 45056},
     {"check", check, 16384},
+    {"sign_roster", sign_roster, 45056},
     {"read_public", read_public, 4096},
     {"write_public", write_public, 0},
     {"read_secret", read_secret, 0},

@@ -30,6 +30,19 @@ mod c {
             signature_len: usize,
             counter: *mut u16,
         ) -> u8;
+        pub fn maesikkong_sign_roster(
+            secret: *const u8,
+            secret_len: usize,
+            team: u16,
+            roster: *const u8,
+            roster_len: usize,
+            r: *const u8,
+            r_len: usize,
+            budget: u32,
+            signature: *mut u8,
+            signature_len: usize,
+            counter: *mut u16,
+        ) -> u8;
         pub fn maesikkong_check(
             public: *const u8,
             public_len: usize,
@@ -123,6 +136,34 @@ pub fn sign(
     (number, counter)
 }
 
+/// The signature record of a roster under its team number, and with the number the counter.
+pub fn sign_roster(
+    secret: &[u8],
+    team: u16,
+    roster: &[u8],
+    r: &[u8],
+    budget: u32,
+    signature: &mut [u8],
+) -> (u8, u16) {
+    let mut counter = 0;
+    let number = unsafe {
+        c::maesikkong_sign_roster(
+            secret.as_ptr(),
+            secret.len(),
+            team,
+            roster.as_ptr(),
+            roster.len(),
+            r.as_ptr(),
+            r.len(),
+            budget,
+            signature.as_mut_ptr(),
+            signature.len(),
+            &mut counter,
+        )
+    };
+    (number, counter)
+}
+
 /// Whether the signature record on the message passes under the public record.
 pub fn check(public: &[u8], message: &[u8], signature: &[u8]) -> u8 {
     unsafe {
@@ -137,7 +178,7 @@ pub fn check(public: &[u8], message: &[u8], signature: &[u8]) -> u8 {
     }
 }
 
-/// The envelope of a team number, a roster and its signature record.
+/// The envelope of a team number, a roster and the signature record of both.
 pub fn write_envelope(team: u16, roster: &[u8], signature: &[u8], envelope: &mut [u8]) -> u8 {
     unsafe {
         c::maesikkong_write_envelope(

@@ -1,11 +1,12 @@
-//! A desk makes a key, signs a roster and puts both into an envelope; a receiver opens it. Prints each answer, and exits with 1 if one is
-//! not the expected one.
+//! A desk makes a key and signs a message, which is checked. Then it signs a roster under its team number, and puts the number, the roster and
+//! the signature into an envelope; a receiver opens it. Prints each answer, and exits with 1 if one is not the expected one.
 
 mod maesikkong;
 
 use maesikkong::{ENVELOPE_BYTES, PUBLIC_BYTES, SECRET_BYTES, SIGNATURE_BYTES};
 use std::fmt::Debug;
 
+const MESSAGE: &[u8] = b"Radio check at noon\n";
 const ROSTER: &[u8] = b"Saturday: Hana, Minjun\nSunday: Seoyeon, Jiho\n";
 const TEAM: u16 = 119;
 
@@ -47,40 +48,46 @@ fn make_key() -> (bool, Desk) {
     (ok, Desk { public, secret })
 }
 
-fn sign(desk: &Desk) -> (bool, Vec<u8>) {
+fn sign_and_check(desk: &Desk) -> bool {
     let mut signature = vec![0; SIGNATURE_BYTES];
     let r = from_name("r", 32);
-    let (number, counter) = maesikkong::sign(&desk.secret, ROSTER, &r, 1024, &mut signature);
+    let (number, counter) = maesikkong::sign(&desk.secret, MESSAGE, &r, 1024, &mut signature);
     let ok = expect("sign", number, 0);
     println!("  by counter {counter}");
-    (ok, signature)
+    ok & expect("check", maesikkong::check(&desk.public, MESSAGE, &signature), 0)
+        & expect("check with an empty message", maesikkong::check(&desk.public, &[], &signature), 11)
 }
 
-fn check(desk: &Desk, signature: &[u8]) -> bool {
-    expect("check", maesikkong::check(&desk.public, ROSTER, signature), 0)
-        & expect("check with an empty message", maesikkong::check(&desk.public, &[], signature), 11)
-}
-
-fn open_envelope(desk: &Desk, signature: &[u8]) -> bool {
+fn write_envelope(desk: &Desk) -> (bool, Vec<u8>) {
+    let mut signature = vec![0; SIGNATURE_BYTES];
     let mut envelope = vec![0; ENVELOPE_BYTES + ROSTER.len()];
-    let mut ok = expect(
-        "write envelope",
-        maesikkong::write_envelope(TEAM, ROSTER, signature, &mut envelope),
-        0,
-    );
-    let opened = maesikkong::open_envelope(&desk.public, &envelope);
-    ok &= expect("open envelope", opened, (0, TEAM, ROSTER));
+    let r = from_name("r of the roster", 32);
+    let (number, counter) = maesikkong::sign_roster(&desk.secret, TEAM, ROSTER, &r, 1024, &mut signature);
+    let mut ok = expect("sign roster", number, 0);
+    println!("  by counter {counter}");
+    let written = maesikkong::write_envelope(TEAM, ROSTER, &signature, &mut envelope);
+    ok &= expect("write envelope", written, 0);
+    (ok, envelope)
+}
+
+fn open_envelope(desk: &Desk, envelope: &mut [u8]) -> bool {
+    let opened = maesikkong::open_envelope(&desk.public, envelope);
+    let mut ok = expect("open envelope", opened, (0, TEAM, ROSTER));
     print!("{}", String::from_utf8_lossy(opened.2));
-    envelope[6] ^= 1;
-    let opened = maesikkong::open_envelope(&desk.public, &envelope);
-    ok & expect("open envelope with another roster", opened, (11, 0, &[][..]))
+    for (what, at) in [("another roster", 6), ("another team number", 2)] {
+        envelope[at] ^= 1;
+        let opened = maesikkong::open_envelope(&desk.public, envelope);
+        ok &= expect(&format!("open envelope with {what}"), opened, (11, 0, &[][..]));
+        envelope[at] ^= 1;
+    }
+    ok
 }
 
 fn main() {
     let (mut ok, desk) = make_key();
-    let (signed, signature) = sign(&desk);
-    ok &= signed;
-    ok &= check(&desk, &signature);
-    ok &= open_envelope(&desk, &signature);
+    ok &= sign_and_check(&desk);
+    let (written, mut envelope) = write_envelope(&desk);
+    ok &= written;
+    ok &= open_envelope(&desk, &mut envelope);
     std::process::exit(if ok { 0 } else { 1 });
 }

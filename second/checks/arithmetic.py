@@ -2,7 +2,7 @@
 
 import random
 
-from sets import SET_I
+from sets import MESSAGE_LIMIT, ROSTER_LIMIT, SET_I
 from sums import (centred, fits_signed_byte, high, low, plain_product, product,
                   sum_of_largest)
 
@@ -10,6 +10,7 @@ from sums import (centred, fits_signed_byte, high, low, plain_product, product,
 def set_numbers(expect):
     expect("half of q", SET_I.q // 2, 171788288)
     expect("B less S", SET_I.z_bound, 523733)
+    expect("limits", (MESSAGE_LIMIT, ROSTER_LIMIT), (32768, 32766))
     expect("t fits its width", SET_I.q <= 1 << SET_I.t_width, True)
     expect("one subtraction brings a into range", 1 << SET_I.t_width <= 2 * SET_I.q, True)
     expect("one subtraction brings y into range",

@@ -145,22 +145,26 @@ def key_refusals(expect):
                   lambda inputs: make_key(SET_I, **inputs), lambda number: (number, None))
 
 
-def sign_faults():
-    """The same of signing."""
-    made = sample()
-    inputs = dict(secret=made.secret, message=b"", r=made.r, budget=1024, signature_len=2594)
-    faults = (
+def signing_faults(name, *lengths):
+    """Faults of signing, in the order of its tests. What has this name is too long."""
+    return (
         wrong_lengths("secret") + wrong_lengths("r") + wrong_output_lengths("signature_len")
         + other_marks("secret", b"\x51\x12")
-        + [Fault("long message", 3, set_to("message", bytes(32769))),
-           Fault("budget 0", 4, set_to("budget", 0)),
+        + [Fault(f"{name} of {length}", 3, set_to(name, bytes(length))) for length in lengths]
+        + [Fault("budget 0", 4, set_to("budget", 0)),
            Fault("budget 1025", 4, set_to("budget", 1025)),
            Fault("s byte", 5, byte_at("secret", 2, 0x80)),
            Fault("e_4 byte", 5, byte_at("secret", 1026 + 3072, 0x80)),
            Fault("heavy s", 6, put_stretch("secret", 2, HEAVY)),
            Fault("heavy e_1", 7, put_stretch("secret", 1026, HEAVY)),
            Fault("heavy e_4", 7, put_stretch("secret", 1026 + 3072, HEAVY))])
-    return inputs, faults
+
+
+def sign_faults():
+    """Inputs of signing, and those faults."""
+    made = sample()
+    inputs = dict(secret=made.secret, message=b"", r=made.r, budget=1024, signature_len=2594)
+    return inputs, signing_faults("message", 32769)
 
 
 def sign_refusals(expect):

@@ -4,9 +4,9 @@ import random
 
 from checks.damage import (Fault, by, expect_faults, other_marks, with_byte, with_field,
                            wrong_lengths, wrong_output_lengths)
-from records import (pack, pack_signed, read_public, read_secret, read_signature,
-                     signed_bytes, unpack, unpack_signed, write_public, write_secret,
-                     write_signature)
+from records import (ENVELOPE, PUBLIC, SECRET, SIGNATURE, pack, pack_signed, read_public,
+                     read_secret, read_signature, signed_bytes, unpack, unpack_signed,
+                     write_public, write_secret, write_signature)
 from sets import SET_I
 
 ROUNDS = 5
@@ -21,8 +21,8 @@ def lengths(expect):
     expect("secret", SET_I.secret_length, 5226)
     expect("signature", SET_I.signature_length, 2594)
     expect("stretch of t", SET_I.t_bytes, 3712)
-    marks = [SET_I.record_mark(kind).hex() for kind in (1, 2, 3, 4)]
-    expect("marks", marks, ["5111", "5112", "5113", "5114"])
+    marks = [SET_I.record_mark(kind).hex() for kind in (PUBLIC, SECRET, SIGNATURE, ENVELOPE)]
+    expect("marks", marks, ["5111", "5112", "5113", "5115"])
 
 
 def random_public(rng):

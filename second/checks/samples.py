@@ -5,7 +5,7 @@ from dataclasses import replace
 from functools import lru_cache
 from types import SimpleNamespace
 
-from envelope import envelope_length, write_envelope
+from envelope import envelope_length, sign_roster, write_envelope
 from scheme import make_key, sign
 from sets import BUDGET_LIMIT, SET_I
 from sums import check_e, check_s
@@ -39,9 +39,23 @@ def sign_whole(numbers, secret, message, r, budget=BUDGET_LIMIT):
     return sign(numbers, secret, message, r, budget, numbers.signature_length)
 
 
+def sign_whole_roster(numbers, secret, team, roster, r, budget=BUDGET_LIMIT):
+    return sign_roster(numbers, secret, team, roster, r, budget, numbers.signature_length)
+
+
+def enveloped(numbers, team, roster, signature):
+    return write_envelope(numbers, team, roster, signature,
+                          envelope_length(numbers, len(roster)))[1]
+
+
+def signed_envelope(numbers, secret, team, roster, r):
+    signature = sign_whole_roster(numbers, secret, team, roster, r)[2]
+    return enveloped(numbers, team, roster, signature)
+
+
 @lru_cache(maxsize=None)
 def sample(numbers=SET_I, seed=0):
-    """A key, a message signed with it, and their envelope."""
+    """A key, a message signed with it, and the envelope of the same bytes as a roster."""
     rng = random.Random(seed)
     s, e = secrets(numbers, rng)
     seed_a, seed_y, r = rng.randbytes(32), rng.randbytes(32), rng.randbytes(32)
@@ -49,8 +63,7 @@ def sample(numbers=SET_I, seed=0):
     team = rng.randrange(65536)
     public, secret = make_sample_key(numbers, s, e, seed_a, seed_y)[1]
     number, counter, signature = sign_whole(numbers, secret, message, r)
-    envelope = write_envelope(numbers, team, message, signature,
-                              envelope_length(numbers, len(message)))[1]
+    envelope = signed_envelope(numbers, secret, team, message, r)
     return SimpleNamespace(s=s, e=e, seed_a=seed_a, seed_y=seed_y, r=r, message=message,
                            team=team, public=public, secret=secret, number=number,
                            counter=counter, signature=signature, envelope=envelope)

@@ -3,8 +3,9 @@
 import random
 from dataclasses import replace
 
-from checks.samples import (SMALL, make_sample_key, polynomial, sample, secrets,
-                            sign_whole)
+from checks.damage import with_bit_flipped
+from checks.samples import (SMALL, make_sample_key, polynomial, sample, secrets, sign_whole,
+                            sign_whole_roster)
 from envelope import open_envelope
 from program import line
 from records import write_signature
@@ -32,6 +33,13 @@ def whole(expect):
             expect("line", line(numbers, made.public + made.envelope),
                    f"ROSTER team={made.team} bytes={len(made.message)} ok\n")
             expect("other message", check(numbers, made.public, b"", made.signature), 11)
+            joined = made.envelope[2:4] + made.message
+            signed = sign_whole_roster(numbers, made.secret, made.team, made.message, made.r)
+            expect("roster signed", signed, sign_whole(numbers, made.secret, joined, made.r))
+            for at in (2, 3):
+                expect("other team", open_envelope(numbers, made.public,
+                                                   with_bit_flipped(made.envelope, at)),
+                       (11, 0, 0, 0))
 
 
 def every_budget(expect):
@@ -85,7 +93,7 @@ def high_part_in_checking(expect):
     worse = signature[:2] + b"\xff\xff\x07" + signature[5:]
     expect("9 before 10", check(TALL, public, b"", worse), 9)
     expect("3 before 10", check(TALL, public, bytes(32769), signature), 3)
-    envelope = b"\x51\x14\1\0\0\0" + signature
+    envelope = b"\x51\x15\1\0\0\0" + signature
     expect("10 of opening", open_envelope(TALL, public, envelope), (10, 0, 0, 0))
     expect("10 of the program", line(TALL, public + envelope), "REFUSED 10\n")
 
@@ -95,7 +103,7 @@ def marks_follow_the_set(expect):
     made = sample(numbers)
     marks = [record[:2].hex() for record in (made.public, made.secret, made.signature,
                                              made.envelope)]
-    expect("marks", marks, ["5131", "5132", "5133", "5134"])
+    expect("marks", marks, ["5131", "5132", "5133", "5135"])
     expect("checked", check(numbers, made.public, made.message, made.signature), 0)
     expect("another set's marks", check(SMALL, made.public, made.message, made.signature), 2)
 

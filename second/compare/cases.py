@@ -25,6 +25,7 @@ def more_than_held(size, *names):
 FAULTS = {
     "make_key": keys_and_signatures.key_faults,
     "sign": keys_and_signatures.sign_faults,
+    "sign_roster": envelopes.sign_roster_faults,
     "check": keys_and_signatures.check_faults,
     "write_public": record_forms.write_public_faults,
     "read_public": record_forms.read_public_faults,

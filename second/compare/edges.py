@@ -4,11 +4,13 @@ from itertools import product
 
 from checks.candidates import a_bytes, position_bytes, y_bytes
 from checks.damage import with_bit_flipped, with_byte, with_field
+from checks.envelopes import OLD_MARK
 from checks.keys_and_signatures import FULL, HEAVY
-from checks.samples import make_sample_key, sample, sign_whole
+from checks.samples import (enveloped, make_sample_key, sample, sign_whole, sign_whole_roster,
+                            signed_envelope)
 from compare import valid
-from compare.valid import TOP_Y, envelope_of
-from sets import BUDGET_LIMIT, MESSAGE_LIMIT, SET_I
+from compare.valid import TOP_Y, written
+from sets import BUDGET_LIMIT, MESSAGE_LIMIT, ROSTER_LIMIT, SET_I
 from streams import POSITION_CANDIDATES
 
 BLOCK = 136   # of SHAKE256
@@ -38,12 +40,28 @@ def sign(rng):
     for length in (0, 1, BLOCK - 1, BLOCK, MESSAGE_LIMIT, MESSAGE_LIMIT + 1):
         yield dict(base, message=rng.randbytes(length))
     own = dict(base, secret=made.secret, message=made.message, r=made.r)
-    for budget in (0, 1, made.counter - 1, made.counter, BUDGET_LIMIT, BUDGET_LIMIT + 1,
-                   2**32 - 1):
+    yield from signed_otherwise(own, made.counter)
+
+
+def signed_otherwise(own, counter):
+    """With other budgets than the counter that passes, other outputs and other secrets."""
+    for budget in (0, 1, counter - 1, counter, BUDGET_LIMIT, BUDGET_LIMIT + 1, 2**32 - 1):
         yield dict(own, budget=budget)
-    yield dict(own, secret=with_bit_flipped(made.secret, 5225))   # another g
+    for more in (-1, 1):
+        yield dict(own, signature_len=SET_I.signature_length + more)
+    yield dict(own, secret=with_bit_flipped(own["secret"], 5225))   # another g
     for s in (FULL, EMPTY, BOTH_ENDS):
         yield dict(own, secret=secret_of(s, s * 4))
+
+
+def sign_roster(rng):
+    made, base = sample(), dict(valid.sign_roster(rng), budget=BUDGET_LIMIT)
+    for team, length in [(0, 0), (1, 1), (255, BLOCK - 5), (256, BLOCK - 4), (1207, BLOCK - 3),
+                         (65535, ROSTER_LIMIT), (7, ROSTER_LIMIT + 1), (7, ROSTER_LIMIT + 2)]:
+        yield dict(base, team=team, roster=rng.randbytes(length))
+    own = dict(base, secret=made.secret, team=made.team, roster=made.message, r=made.r)
+    counter = sign_whole_roster(SET_I, made.secret, made.team, made.message, made.r)[1]
+    yield from signed_otherwise(own, counter)
 
 
 def check(rng):
@@ -106,35 +124,48 @@ def read_signature(rng):
 
 def write_envelope(rng):
     signature = valid.read_signature(rng)["record"]
-    for team, length in [(0, 0), (1, 1), (255, 255), (256, 256), (65535, MESSAGE_LIMIT),
-                         (7, MESSAGE_LIMIT + 1), (7, 65535), (7, 65536)]:
-        base = envelope_of(team, rng.randbytes(length), signature)[0]
+    for team, length in [(0, 0), (1, 1), (255, 255), (256, 256), (65535, ROSTER_LIMIT),
+                         (7, ROSTER_LIMIT + 1), (7, ROSTER_LIMIT + 2), (7, 65535), (7, 65536)]:
+        base = written(team, rng.randbytes(length), signature)
         yield base
         for more in (-1, 1, -65536):
             yield dict(base, envelope_len=max(0, base["envelope_len"] + more))
 
 
+def and_others(envelope):
+    """An envelope, and others that differ from it by a byte: too few, too many, or another."""
+    yield from (envelope, envelope[:-1], envelope + b"\0", OLD_MARK + envelope[2:])
+    for at in (2, 3):   # the team number
+        yield with_bit_flipped(envelope, at)
+
+
 def read_envelope(rng):
     signature = valid.read_signature(rng)["record"]
-    for team, length in [(0, 0), (1, 1), (255, 255), (256, 256), (65535, MESSAGE_LIMIT)]:
-        yield dict(envelope=envelope_of(team, rng.randbytes(length), signature)[1])
-    over = b"\x51\x14\x07\x00\x01\x80" + rng.randbytes(MESSAGE_LIMIT + 1) + signature
-    yield dict(envelope=over)
+    for team, length in [(0, 0), (1, 1), (255, 255), (256, 256), (65535, ROSTER_LIMIT)]:
+        for envelope in and_others(enveloped(SET_I, team, rng.randbytes(length), signature)):
+            yield dict(envelope=envelope)
+    for length in (ROSTER_LIMIT + 1, ROSTER_LIMIT + 2, 65535):
+        over = (b"\x51\x15\x07\x00" + length.to_bytes(2, "little") + rng.randbytes(length)
+                + signature)
+        yield dict(envelope=over)
     for length in range(8):
         yield dict(envelope=over[:length])
 
 
 def open_envelope(rng):
-    made = sample()
-    for length in (0, 1, MESSAGE_LIMIT):
+    made, team = sample(), 1207
+    for length in (0, 1, BLOCK - 4, ROSTER_LIMIT):
         roster = rng.randbytes(length)
-        signature = sign_whole(SET_I, made.secret, roster, made.r)[2]
-        yield dict(public=made.public,
-                   envelope=envelope_of(rng.randrange(65536), roster, signature)[1])
+        for envelope in and_others(signed_envelope(SET_I, made.secret, team, roster, made.r)):
+            yield dict(public=made.public, envelope=envelope)
+        for message in (roster, team.to_bytes(2, "big") + roster):   # signed in its place
+            signature = sign_whole(SET_I, made.secret, message, made.r)[2]
+            envelope = enveloped(SET_I, team, roster, signature)
+            yield dict(public=made.public, envelope=envelope)
+            yield dict(public=made.public, envelope=OLD_MARK + envelope[2:])
     for inputs in read_envelope(rng):
-        yield dict(inputs, public=made.public)
-    yield dict(public=b"", envelope=made.envelope)
-    yield dict(public=b"", envelope=b"")
+        for public in (made.public, b""):
+            yield dict(inputs, public=public)
 
 
 def take_a(rng):

@@ -10,7 +10,7 @@ that comes back, in the parameters' order, with None for an output that stays as
 from collections import namedtuple
 
 from compare.face import I8, I32, SIZE, U8, U16, U32, Given, Lent, Output, Returned
-from envelope import open_envelope, read_envelope, write_envelope
+from envelope import open_envelope, read_envelope, sign_roster, write_envelope
 from records import (read_public, read_secret, read_signature, write_public, write_secret,
                      write_signature)
 from scheme import check, make_key, sign
@@ -36,9 +36,12 @@ def several(function, count):
     return own
 
 
-def own_sign(inputs):
-    number, counter, signature = sign(SET_I, **inputs)
-    return number, [signature, counter]
+def counted(function):
+    """Of a function that answers the counter too."""
+    def own(inputs):
+        number, counter, signature = function(SET_I, **inputs)
+        return number, [signature, counter]
+    return own
 
 
 def own_check(inputs):
@@ -75,7 +78,11 @@ ENTRIES = [
     Entry("sign",
           lent("secret", "message", "r") + [Given("budget", U32)]
           + outputs("signature_len") + [Returned("counter", U16)],
-          own_sign, {0, 1, 2, 3, 4, 5, 6, 7, 8}),
+          counted(sign), {0, 1, 2, 3, 4, 5, 6, 7, 8}),
+    Entry("sign_roster",
+          lent("secret") + [Given("team", U16)] + lent("roster", "r")
+          + [Given("budget", U32)] + outputs("signature_len") + [Returned("counter", U16)],
+          counted(sign_roster), {0, 1, 2, 3, 4, 5, 6, 7, 8}),
     Entry("check", lent("public", "message", "signature"), own_check, {0, 1, 2, 3, 5, 9, 11}),
     Entry("write_public", [Lent("t", U32)] + lent("seed_a") + outputs("record_len"),
           one(write_public), {0, 1, 5}),

@@ -1,10 +1,10 @@
 """Random inputs of each entry that pass its tests, by the entry's name."""
 
-import envelope
 import records
 from checks.candidates import position_bytes, y_bytes
 from checks.record_forms import random_public, random_secret, random_signature
-from checks.samples import sample, secrets
+from checks.samples import enveloped, sample, secrets, signed_envelope
+from envelope import envelope_length
 from sets import BUDGET_LIMIT, SET_I
 
 KEYS = 3   # that the cases share
@@ -25,6 +25,12 @@ def sign(rng):
     return dict(secret=some_key(rng).secret, message=rng.randbytes(rng.randrange(400)),
                 r=rng.randbytes(32), budget=rng.choice([1, 2, 4, 8, BUDGET_LIMIT]),
                 signature_len=SET_I.signature_length)
+
+
+def sign_roster(rng):
+    inputs = sign(rng)
+    inputs["roster"] = inputs.pop("message")
+    return dict(inputs, team=rng.randrange(65536))
 
 
 def check(rng):
@@ -50,30 +56,29 @@ def read_signature(rng):
     return dict(record=record, z_len=1024, c_len=32)
 
 
-def envelope_of(team, roster, signature):
-    """Inputs of writing, and the envelope."""
-    inputs = dict(team=team, roster=roster, signature=signature,
-                  envelope_len=envelope.envelope_length(SET_I, len(roster)))
-    return inputs, envelope.write_envelope(SET_I, **inputs)[1]
+def some_roster(rng):
+    """A team number and a roster."""
+    return rng.randrange(65536), rng.randbytes(rng.randrange(400))
 
 
-def random_envelope(rng):
-    return envelope_of(rng.randrange(65536), rng.randbytes(rng.randrange(400)),
-                       read_signature(rng)["record"])
+def written(team, roster, signature):
+    """Inputs of writing an envelope."""
+    return dict(team=team, roster=roster, signature=signature,
+                envelope_len=envelope_length(SET_I, len(roster)))
 
 
 def write_envelope(rng):
-    return random_envelope(rng)[0]
+    return written(*some_roster(rng), read_signature(rng)["record"])
 
 
 def read_envelope(rng):
-    return dict(envelope=random_envelope(rng)[1])
+    return dict(envelope=enveloped(SET_I, *some_roster(rng), read_signature(rng)["record"]))
 
 
 def open_envelope(rng):
     made = some_key(rng)
     return dict(public=made.public,
-                envelope=envelope_of(rng.randrange(65536), made.message, made.signature)[1])
+                envelope=signed_envelope(SET_I, made.secret, *some_roster(rng), made.r))
 
 
 def take_a(rng):

@@ -8,9 +8,9 @@ use mathlib.Core.Bool.{Bool, true, false}
 use mathlib.Core.List.{List}
 use Prim.Native.Nat.{ℕ, suc}
 use lib.Dec.{eqb}
-use borrow.Author.Tests.{eqb-true, eqb-false}
+use borrow.Author.Tests.{eqb-false}
 use Rattle.answers.specs.Tests.{Test, Answered, Output}
-use Rattle.answers.specs.TestLaws.{after-done, after-refused, after-other}
+use Rattle.answers.specs.TestLaws.{after-done, after-refused, after-other, passed}
 
 pub same-number : {ts : List Test} {m n : ℕ} → Answered ts m → Answered ts n → m ≡ n
 same-number a b = a .is ∙ sym (b .is)
@@ -28,7 +28,7 @@ module _ {A : Type 0} {ts : List Test} {new old : A} where
 -- `done` is whether the number is 0
 module _ {A : Type 0} {ts : List Test} {number : ℕ} {done : Bool} where
   pub made-done : {new old now : A} → Answered ts number → done ≡ eqb number 0 → done ≡ true → now ≡ new → Output ts new old now
-  made-done {new} {old} a e h f = record { is = f ∙ sym (after-done new old (sym (a .is) ∙ eqb-true number 0 (sym e ∙ h))) }
+  made-done {new} {old} a e h f = record { is = f ∙ sym (after-done new old (passed a e h)) }
 
   pub kept-refused : {new old : A} → Answered ts number → done ≡ eqb number 0 → done ≡ false → Output ts new old old
   kept-refused {new} {old} a e h =

@@ -127,9 +127,12 @@ passes-at ts n e i = go ts i (passes-all ts n e)
     go (t ∷ us) zero p = p .0
     go (t ∷ us) (suc j) p = go us j (p .1)
 
--- every test passes, of the number that a function answered, where it is 0
+-- the same of the number that a function answered: `done` is whether it is 0
+pub passed : {ts : List Test} {number : ℕ} {done : Bool} → Answered ts number → done ≡ eqb number 0 → done ≡ true → answer ts ≡ 0
+passed {number = number} a e h = sym (a .is) ∙ eqb-true number 0 (sym e ∙ h)
+
 pub all-passed : {ts : List Test} {number : ℕ} {done : Bool} → numbered ts ≡ true → Answered ts number → done ≡ eqb number 0 → done ≡ true → AllPass ts
-all-passed {ts} {number} n a e h = passes-all ts n (sym (a .is) ∙ eqb-true number 0 (sym e ∙ h))
+all-passed {ts} n a e h = passes-all ts n (passed a e h)
 
 -- ---- the tests of one function, then those of another
 
@@ -145,6 +148,6 @@ module _ {xs : List Test} {m : ℕ} {done : Bool} (ys : List Test) (a : Answered
   -- where they pass, the others decide
   pub beyond : {n : ℕ} → numbered xs ≡ true → not done ≡ false → Answered ys n → Answered (xs ++ ys) n
   beyond i h b =
-      record { is = b .is ∙ sym (answer-past xs ys i (sym (a .is) ∙ eqb-true m 0 (sym e ∙ not-false done h))) }
+      record { is = b .is ∙ sym (answer-past xs ys i (passed a e (not-false done h))) }
 
 pub ruleset tests = (refused, past, accepted, eq-eqb, ne-eqb, le-leb, lt-leb, agrees, differs, holds, misses)

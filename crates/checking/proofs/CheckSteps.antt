@@ -11,7 +11,7 @@ use Rattle.answers.specs.TestLaws.{all-passed}
 use Rattle.sets.specs.declared.Numbers.{Numbers}
 use Rattle.sets.specs.SetI.{setI}
 use Rattle.sampling.specs.Streams.{messageDigest}
-use Rattle.checking.specs.Check.{inputTests, workTests, checkTests}
+use Rattle.checking.specs.Check.{inputTests, workTests, digestTests, checkTests}
 use Rattle.checking.specs.Asks.{Tested}
 
 pub inputs-numbered : (set : Numbers) (public : List ℕ) (message : ℕ) (signature : List ℕ) → numbered (inputTests set public message signature) ≡ true
@@ -37,3 +37,7 @@ digest-answered set public message signature e a = rw e at a
 pub check-i : {set : Numbers} (public message signature : List ℕ) {number : ℕ} → set ≡ setI
     → Answered (checkTests set public message signature) number → Answered (checkTests setI public message signature) number
 check-i public message signature e a = rw e at a
+
+pub check-digest-i : {set : Numbers} (public : List ℕ) (len : ℕ) (digest signature : List ℕ) {number : ℕ} → set ≡ setI
+    → Answered (digestTests set public len digest signature) number → Answered (digestTests setI public len digest signature) number
+check-digest-i public len digest signature e a = rw e at a

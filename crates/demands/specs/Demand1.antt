@@ -17,6 +17,7 @@ use Rattle.whole.specs.Every.{every}
 use Rattle.answers.specs.Tests.{Test, _orElse_, answer, AllPass, numbered, Answered, Output}
 use Rattle.answers.specs.TestLaws.{all-pass, passes-all, answer-before, answer-past, after-refused}
 use Rattle.sets.specs.declared.Numbers.{Numbers}
+use Rattle.sampling.specs.Streams.{rosterMessage}
 use Rattle.sampling.specs.Lent.{testsA, testsY, testsEnc}
 use Rattle.records.specs.Public.{publicTests, readPublicTests, writePublicTests}
 use Rattle.records.specs.Secret.{byteTests, secretTests, readSecretTests, writeSecretTests}
@@ -107,8 +108,13 @@ entries set =
     ∷ lowestFirst (λ (x : List ℕ × List ℕ × List ℕ × ℕ × ℕ). signTests set (x .0) (length (x .1)) (length (x .2)) (x .3) (x .4))
     ∷ inOrder
     (λ (x : List ℕ × List ℕ × List ℕ × ℕ × ℕ). signTests set (x .0) (length (x .1)) (length (x .2)) (x .3) (x .4) ++ foundTests (signSearch set (x .0) (x .1) (x .2) (x .3)))
-    -- checking: check
+    -- signing: sign_roster, of a secret record, the team number, a roster, r, the budget and the signature's length; the same two
+    ∷ lowestFirst (λ (x : List ℕ × ℕ × List ℕ × List ℕ × ℕ × ℕ). signTests set (x .0) (length (rosterMessage (x .1) (x .2))) (length (x .3)) (x .4) (x .5))
+    ∷ inOrder
+    (λ (x : List ℕ × ℕ × List ℕ × List ℕ × ℕ × ℕ). signTests set (x .0) (length (rosterMessage (x .1) (x .2))) (length (x .3)) (x .4) (x .5) ++ foundTests (signSearch set (x .0) (rosterMessage (x .1) (x .2)) (x .3) (x .4)))
+    -- checking: check, and check_digest, of a public record, the message's length, G of it and a signature record
     ∷ lowestFirst (λ (x : List ℕ × List ℕ × List ℕ). checkTests set (x .0) (x .1) (x .2))
+    ∷ lowestFirst (λ (x : List ℕ × ℕ × List ℕ × List ℕ). digestTests set (x .0) (x .1) (x .2) (x .3))
     -- envelope: write, read, open
     ∷ lowestFirst (λ (x : List ℕ × List ℕ × ℕ). writeTests set (x .0) (x .1) (x .2))
     ∷ inOrder (λ (envelope : List ℕ). readTests set envelope)
@@ -161,6 +167,9 @@ demand-1 set =
     and (λ x. said true _ refl (λ _. refl))
     and (λ x. said true _ refl (λ _. refl))
     and (λ x. said false _ (found-numbered (signSearch set (x .0) (x .1) (x .2) (x .3))) own-order)
+    and (λ x. said true _ refl (λ _. refl))
+    and (λ x. said false _ (found-numbered (signSearch set (x .0) (rosterMessage (x .1) (x .2)) (x .3) (x .4))) own-order)
+    and (λ x. said true _ refl (λ _. refl))
     and (λ x. said true _ refl (λ _. refl))
     and (λ x. said true _ refl (λ _. refl))
     and (λ x. said false _ refl own-order)

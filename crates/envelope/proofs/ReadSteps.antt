@@ -1,19 +1,22 @@
 -- Reading and opening: the tests that follow the head's, over the parts that the code lends, and what comes back with an answer.
 -- Assumes nothing.
-use mathlib.Core.Path.{_≡_, ap, _∙_}
-use mathlib.Core.Bool.{Bool, true, false}
-use mathlib.Core.List.{List, [], _∷_}
+use mathlib.Core.Path.{_≡_, _∙_}
+use mathlib.Core.Bool.{Bool, true, false, not}
+use mathlib.Core.List.{List, [], _∷_, _++_}
 use Prim.Native.Nat.{ℕ, _+_}
 use lib.Dec.{eqb}
-use Rattle.answers.specs.Tests.{Test, _orElse_, answer, Answered}
+use borrow.Author.Tests.{not-false}
+use Rattle.answers.specs.Tests.{_orElse_, Answered}
+use Rattle.answers.specs.TestLaws.{passed}
 use Rattle.answers.specs.OutputLaws.{made-done, kept-refused}
 use Rattle.sets.specs.declared.Numbers.{Numbers}
 use Rattle.sets.specs.SetI.{setI}
+use Rattle.sampling.specs.Streams.{messageDigest}
 use Rattle.records.specs.Layout.{marked, stretch, signatureBytes}
 use Rattle.signatures.specs.Signature.{zOf, zInRange}
-use Rattle.checking.specs.Check.{checkTests}
-use Rattle.envelope.specs.Envelope.{headBytes, teamOf, lengthOf, rosterOf, signatureOf, readTests, rosterAnswered}
-use Rattle.envelope.specs.EnvelopeLaws.{roster-answered}
+use Rattle.checking.specs.Check.{digestTests, checkTests}
+use Rattle.envelope.specs.Envelope.{headBytes, teamOf, teamBytes, lengthOf, rosterOf, messageOf, signatureOf, headTests, readTests}
+use Rattle.envelope.specs.EnvelopeLaws.{messageOf-length}
 use Rattle.envelope.specs.Promises.{Opens, Comes}
 
 -- ---- the tests that follow
@@ -25,11 +28,20 @@ pub signed-read : (s : Numbers) (envelope : List ℕ) {signature : List ℕ} {le
 unfolding signatureOf
 signed-read s envelope e f a = rw (f, e) at a
 
-pub checked-opened : (public envelope : List ℕ) {roster signature : List ℕ} {len number : ℕ} → len ≡ lengthOf envelope
-    → roster ≡ stretch headBytes len envelope → signature ≡ stretch (headBytes + len) (signatureBytes setI) envelope
-    → Answered (checkTests setI public roster signature) number → Answered (checkTests setI public (rosterOf envelope) (signatureOf setI envelope)) number
-unfolding rosterOf signatureOf
-checked-opened public envelope e f g a = rw (f, g, e) at a
+-- G of the two pieces that the code lends is G of the message
+pub message-hashed : (set : Numbers) (envelope : List ℕ) {team roster digest : List ℕ} {len : ℕ} → team ≡ teamBytes envelope → len ≡ lengthOf envelope
+    → roster ≡ stretch headBytes len envelope → digest ≡ messageDigest set (team ++ roster) → digest ≡ messageDigest set (messageOf envelope)
+unfolding messageOf rosterOf
+message-hashed set envelope e f g h = h ∙ rw (e, g, f)
+
+-- checking over the length and G of the message is checking the message, where the head passed
+pub checked-opened : {set : Numbers} (public envelope : List ℕ) {digest signature : List ℕ} {len answered number : ℕ} {done : Bool} → set ≡ setI
+    → Answered (headTests set envelope) answered → done ≡ eqb answered 0 → not done ≡ false → len ≡ lengthOf envelope
+    → digest ≡ messageDigest set (messageOf envelope) → signature ≡ stretch (headBytes + len) (signatureBytes set) envelope
+    → Answered (digestTests setI public (2 + len) digest signature) number → Answered (checkTests setI public (messageOf envelope) (signatureOf setI envelope)) number
+unfolding signatureOf checkTests
+checked-opened {set} public envelope {done = done} s head e h f g i a =
+    rw (messageOf-length set envelope (passed head e (not-false done h)), ← f) (rw (g, i, s) at a)
 
 -- ---- what comes back
 
@@ -41,11 +53,6 @@ module _ {envelope : List ℕ} {number : ℕ} {done : Bool} (e : done ≡ eqb nu
   pub comes-refused : done ≡ false → Comes envelope number number 0 0
   comes-refused h =
       record { opens = λ ts a. record { answered = a; team-is = kept-refused a e h; len-is = kept-refused a e h } }
-
--- the stretch of the length that opening answers
-pub roster-opened : (envelope : List ℕ) {ts : List Test} {number team len : ℕ} {out : List ℕ} → Opens ts envelope number team len
-    → out ≡ stretch headBytes len envelope → out ≡ rosterAnswered (answer ts) envelope
-roster-opened envelope {ts} o e = e ∙ ap (λ (n : ℕ). stretch headBytes n envelope) (o .len-is .is) ∙ roster-answered (answer ts) envelope
 
 -- ---- set I
 

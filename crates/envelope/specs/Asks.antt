@@ -5,7 +5,7 @@ use mathlib.Core.List.{List}
 use Prim.Native.Nat.{ℕ, _≤_}
 use lib.ListN.{length}
 use Rattle.sets.specs.declared.Numbers.{Numbers}
-use Rattle.sets.specs.Limits.{messageLimit}
+use Rattle.sets.specs.Limits.{rosterLimit}
 use Rattle.records.specs.Layout.{marked, signatureBytes}
 use Rattle.signatures.specs.Signature.{zOf, zInRange}
 use Rattle.envelope.specs.Envelope.{headBytes, envelopeBytes}
@@ -19,5 +19,5 @@ pub record Writable (s : Numbers) (roster signature : List ℕ) (envelopeLength 
   pub signature-long : length signature ≡ signatureBytes s
   pub envelope-long : envelopeLength ≡ envelopeBytes s (length roster)
   pub signature-mark : marked s 3 signature ≡ true
-  pub short : length roster ≤ messageLimit
+  pub short : length roster ≤ rosterLimit
   pub z-passes : zInRange s (zOf s signature) ≡ true

@@ -14,7 +14,7 @@ use Rattle.whole.specs.Every.{every}
 use Rattle.answers.specs.Tests.{answer}
 use Rattle.answers.specs.TestLaws.{answer-pass, answer-none, answer-past, passes-at}
 use Rattle.sets.specs.declared.Numbers.{Numbers}
-use Rattle.sets.specs.Limits.{messageLimit}
+use Rattle.sets.specs.Limits.{rosterLimit}
 use Rattle.records.specs.Layout.{marked}
 use Rattle.signatures.specs.Signature.{zOf, zInRange}
 use Rattle.envelope.specs.Envelope.{envelopeBytes, envelopeOf, teamOf, lengthOf, rosterOf, signatureOf, headTests, readTests, writeTests}
@@ -60,7 +60,7 @@ envelope-round-trip set =
             answer-pass 1 _ (eq-eqb _ _ (signatureOf-length set envelope head))
                 ∙ answer-pass 1 _ (eq-eqb _ _ (envelope-total set envelope head ∙ ap (envelopeBytes set) (sym roster-long)))
                 ∙ answer-pass 2 _ (at 4)
-                ∙ answer-pass 3 _ (ap (λ (n : ℕ). leb n messageLimit) roster-long ∙ at 2)
+                ∙ answer-pass 3 _ (ap (λ (n : ℕ). leb n rosterLimit) roster-long ∙ at 2)
                 ∙ answer-pass 9 _ (at 5)
                 ∙ answer-none,
             envelope-again set envelope bytes head,

@@ -9,8 +9,11 @@ ghost use lib.Dec.{eqb, leb};
 ghost use Rattle.answers.specs.Answers.{numberOf};
 ghost use Rattle.answers.specs.Tests.{_orElse_, Answered};
 ghost use Rattle.sets.specs.Good.{Good};
-ghost use Rattle.sets.specs.Limits.{messageLimit};
-ghost use Rattle.envelope.specs.Envelope.{envelopeBytes, teamOf, lengthOf, headTests};
+ghost use Rattle.sets.specs.Limits.{rosterLimit};
+ghost use Rattle.envelope.specs.Envelope.{envelopeBytes, teamOf, teamBytes, lengthOf, headTests};
+
+// Which record the envelope is: its mark is 51 15 in set I.
+pub(crate) const ENVELOPE_KIND: u8 = 5;
 
 // The bytes before the roster.
 pub const HEAD_BYTES: usize = 6;
@@ -27,6 +30,13 @@ pub(crate) fn team_of(envelope: &[u8]) -> u16
     ensures { λ r. ⌜ r ≡ teamOf (now (envelope .entry)) ⌝ }
 {
     number(pieces::byte_at(envelope, 2), pieces::byte_at(envelope, 3))
+}
+
+// Its two bytes, as they stand.
+pub(crate) fn team_bytes(envelope: &[u8]) -> [u8; 2]
+    ensures { λ r. ⌜ r ≡ teamBytes (now (envelope .entry)) ⌝ }
+{
+    [pieces::byte_at(envelope, 2), pieces::byte_at(envelope, 3)]
 }
 
 // L, the roster's length.
@@ -52,9 +62,9 @@ pub(crate) fn is_total(set: Numbers, len: usize, total: usize) -> bool
 // The tests of L: its limit, and the total.
 fn test_length(set: Numbers, len: usize, total: usize) -> Answer
     requires { ⌜ Good set ⌝ }
-    ensures { λ r. ⌜ Answered ((leb len messageLimit orElse 3) ∷ (eqb total (envelopeBytes set len) orElse 1) ∷ []) (numberOf r) ⌝ }
+    ensures { λ r. ⌜ Answered ((leb len rosterLimit orElse 3) ∷ (eqb total (envelopeBytes set len) orElse 1) ∷ []) (numberOf r) ⌝ }
 {
-    if sets::MESSAGE_LIMIT < len {
+    if sets::ROSTER_LIMIT < len {
         return Answer::Message;
     }
     if !is_total(set, len, total) {
@@ -71,7 +81,7 @@ pub(crate) fn test_head(set: Numbers, envelope: &[u8]) -> Answer
     if envelope.len() < HEAD_BYTES {
         return Answer::Length;
     }
-    if !pieces::is_marked(set, 4, envelope) {
+    if !pieces::is_marked(set, ENVELOPE_KIND, envelope) {
         return Answer::Mark;
     }
     test_length(set, length_of(envelope), envelope.len())

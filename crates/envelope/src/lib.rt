@@ -1,4 +1,4 @@
-// The envelope: a roster under its team number, with the signature record that signs it.
+// The envelope: a roster under its team number, with the signature record that signs both.
 pub mod head;
 mod parts;
 mod reading;
@@ -51,7 +51,8 @@ pub fn signature(envelope: &[u8], len: usize) -> &[u8]
     parts::signature_in(SetI::numbers(), envelope, len)
 }
 
-// Set I: opens an envelope: the tests of its head, then checking its roster with the public record that is lent.
+// Set I: opens an envelope: the tests of its head, then checking its message, the two bytes of the team number and the roster, with the
+// public record that is lent.
 pub fn open(public: &[u8], envelope: &[u8]) -> Opened
     ensures { λ r. ⌜ Opens (openTests setI (now (public .entry)) (now (envelope .entry))) (now (envelope .entry)) (numberOf (r .answer)) (r .team) (r .len) ⌝ }
 {

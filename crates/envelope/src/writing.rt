@@ -30,7 +30,7 @@ fn test_write(set: Numbers, roster: &[u8], signature: &[u8], envelope: usize) ->
     if !pieces::is_marked(set, 3, signature) {
         return Answer::Mark;
     }
-    if sets::MESSAGE_LIMIT < roster.len() {
+    if sets::ROSTER_LIMIT < roster.len() {
         return Answer::Message;
     }
     if !signatures::z_passes(set, signature) {
@@ -44,13 +44,10 @@ fn put_numbers(team: u16, len: u16, envelope: &mut [u8])
     requires { ⌜ PutsNumbers (now envelope) ⌝ }
     ensures { λ _. ⌜ now (envelope .exit) ≡ take 2 (now (envelope .entry)) ++ ((twoBytes team ++ twoBytes len) ++ drop headBytes (now (envelope .entry))) ⌝ }
 {
-    let bytes = [
-        (team % 256) as u8,
-        (team / 256) as u8,
-        (len % 256) as u8,
-        (len / 256) as u8,
-    ];
-    pieces::copy_at(&bytes, envelope, 2);
+    let team_bytes = sampling::two_bytes(team);
+    let len_bytes = sampling::two_bytes(len);
+    pieces::copy_at(&team_bytes, envelope, 2);
+    pieces::copy_at(&len_bytes, envelope, 4);
 }
 
 // Writes the mark, both numbers, the roster and the signature record, each after the other.
@@ -60,7 +57,7 @@ fn put_envelope(set: Numbers, team: u16, roster: &[u8], signature: &[u8], envelo
     ensures { λ _. ⌜ now (envelope .exit) ≡ envelopeOf set team (now (roster .entry)) (now (signature .entry)) ⌝ }
 {
     let len = roster.len();
-    pieces::write_mark(set, 4, envelope);
+    pieces::write_mark(set, head::ENVELOPE_KIND, envelope);
     put_numbers(team, len as u16, envelope);
     pieces::copy_at(roster, envelope, HEAD_BYTES);
     pieces::copy_at(signature, envelope, HEAD_BYTES + len);

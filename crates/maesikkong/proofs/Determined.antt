@@ -7,6 +7,8 @@ use Rattle.maesikkong.proofs.key.maesikkong_make_key.Kinds as make-key-
 use Rattle.maesikkong.proofs.key.maesikkong_make_key.Reads as make-key
 use Rattle.maesikkong.proofs.sign.maesikkong_sign.Kinds as sign-kinds
 use Rattle.maesikkong.proofs.sign.maesikkong_sign.Reads as sign
+use Rattle.maesikkong.proofs.sign.maesikkong_sign_roster.Kinds as sign-roster-kinds
+use Rattle.maesikkong.proofs.sign.maesikkong_sign_roster.Reads as sign-roster
 use Rattle.maesikkong.proofs.check.maesikkong_check.Kinds as check-kinds
 use Rattle.maesikkong.proofs.check.maesikkong_check.Reads as check
 use Rattle.maesikkong.proofs.key_records.maesikkong_write_public.Kinds as write-public-kinds
@@ -53,6 +55,15 @@ sign-counter κs a x y e f p q = p .counter-is ∙ sym (q .counter-is)
 
 pub sign-signature : Output 5 sign-kinds.ps sign-kinds.r sign.Learnt (λ κs e. now (e .1 .1 .1 .1 .0))
 sign-signature κs a x y e f p q = p .signature-is ∙ sym (q .signature-is)
+
+pub sign-roster-number : Result 5 sign-roster-kinds.ps sign-roster-kinds.r sign-roster.Learnt
+sign-roster-number κs a x y e f p q = p .number-is ∙ sym (q .number-is)
+
+pub sign-roster-counter : Output 5 sign-roster-kinds.ps sign-roster-kinds.r sign-roster.Learnt (λ κs e. now (e .1 .1 .1 .1 .1 .1 .0))
+sign-roster-counter κs a x y e f p q = p .counter-is ∙ sym (q .counter-is)
+
+pub sign-roster-signature : Output 5 sign-roster-kinds.ps sign-roster-kinds.r sign-roster.Learnt (λ κs e. now (e .1 .1 .1 .1 .1 .0))
+sign-roster-signature κs a x y e f p q = p .signature-is ∙ sym (q .signature-is)
 
 pub check-number : Result 3 check-kinds.ps check-kinds.r check.Learnt
 check-number κs a x y e f p q = same-number p q

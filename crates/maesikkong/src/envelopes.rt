@@ -19,7 +19,7 @@ fn start_with(answer: Answer) -> usize
     }
 }
 
-// Writes the envelope of the team number, the roster and its signature record. 0, 1, 2, 3, 9.
+// Writes the envelope of the team number, the roster and the signature record of both. 0, 1, 2, 3, 9.
 #[no_mangle]
 pub extern "C" fn maesikkong_write_envelope(
     team: u16,

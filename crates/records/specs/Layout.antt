@@ -9,7 +9,7 @@ use Rattle.packing.specs.Digits.{bytesFor}
 use Rattle.sets.specs.declared.Numbers.{Numbers}
 use Rattle.sets.specs.Limits.{seedBytes, digestBytes}
 
--- the mark of record j, 1 to 4: 51 11 to 51 14 in set I
+-- the mark of record j: in set I 51 11 to 51 13 are those of the public, the secret and the signature record, 51 15 is the envelope's
 abbrev pub mark : Numbers → ℕ → List ℕ
 mark s j = 0x51 ∷ (16 * s .digit + j) ∷ []
 

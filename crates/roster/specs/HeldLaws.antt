@@ -15,10 +15,10 @@ use Rattle.whole.specs.Int.{lt-or-le}
 use Rattle.answers.specs.Tests.{Test, _orElse_, answer}
 use Rattle.answers.specs.TestLaws.{answer-pass}
 use Rattle.sets.specs.declared.Numbers.{Numbers}
-use Rattle.sets.specs.Limits.{messageLimit}
+use Rattle.sets.specs.Limits.{rosterLimit}
 use Rattle.sets.specs.SetI.{setI}
 use Rattle.records.specs.Layout.{marked, publicBytes}
-use Rattle.envelope.specs.Envelope.{headBytes, envelopeBytes, teamOf, lengthOf, headTests, openTests}
+use Rattle.envelope.specs.Envelope.{envelopeKind, headBytes, envelopeBytes, teamOf, lengthOf, headTests, openTests}
 use Rattle.envelope.specs.Program.{programTests, envelopePart}
 use Rattle.envelope.specs.Promises.{Opens}
 use Rattle.roster.specs.Held.{bufferBytes}
@@ -36,14 +36,14 @@ unfolding answer
 stops a b true d rest h = rw (h refl)
 stops a b false d rest h = refl
 
-module _ (s : Numbers) (envelope : List ℕ) (m : ℕ) (more : envelopeBytes s messageLimit < m) (long : m ≤ length envelope) where
+module _ (s : Numbers) (envelope : List ℕ) (m : ℕ) (more : envelopeBytes s rosterLimit < m) (long : m ≤ length envelope) where
   abbrev front : List ℕ
   front = take m envelope
 
   front-long : length front ≡ m
   front-long = omega (arith, length-take m envelope)
 
-  same-mark : marked s 4 front ≡ marked s 4 envelope
+  same-mark : marked s envelopeKind front ≡ marked s envelopeKind envelope
   unfolding marked
   same-mark = rw (getD-take m envelope 0 0 (omega arith), getD-take m envelope 1 0 (omega arith))
 
@@ -56,29 +56,29 @@ module _ (s : Numbers) (envelope : List ℕ) (m : ℕ) (more : envelopeBytes s m
   same-team = rw (getD-take m envelope 2 0 (omega arith), getD-take m envelope 3 0 (omega arith))
 
   -- no envelope is so long
-  too-long : (xs : List ℕ) → m ≤ length xs → leb (lengthOf xs) messageLimit ≡ true → eqb (length xs) (envelopeBytes s (lengthOf xs)) ≡ false
-  too-long xs l e = ne-eqb (length xs) (envelopeBytes s (lengthOf xs)) (λ x. absurd (omega (arith, x, leb-true (lengthOf xs) messageLimit e)))
+  too-long : (xs : List ℕ) → m ≤ length xs → leb (lengthOf xs) rosterLimit ≡ true → eqb (length xs) (envelopeBytes s (lengthOf xs)) ≡ false
+  too-long xs l e = ne-eqb (length xs) (envelopeBytes s (lengthOf xs)) (λ x. absurd (omega (arith, x, leb-true (lengthOf xs) rosterLimit e)))
 
   -- the front of an envelope that is longer than any is refused as the envelope is
   cut-opens : (public : List ℕ) → answer (openTests s public front) ≡ answer (openTests s public envelope)
   unfolding openTests headTests
   cut-opens public =
-      stops (leb headBytes (length front)) (marked s 4 front) (leb (lengthOf front) messageLimit) (eqb (length front) (envelopeBytes s (lengthOf front))) _
+      stops (leb headBytes (length front)) (marked s envelopeKind front) (leb (lengthOf front) rosterLimit) (eqb (length front) (envelopeBytes s (lengthOf front))) _
       (too-long front (omega (arith, front-long)))
       ∙ same
       ∙ sym
-      (stops (leb headBytes (length envelope)) (marked s 4 envelope) (leb (lengthOf envelope) messageLimit) (eqb (length envelope) (envelopeBytes s (lengthOf envelope))) _
+      (stops (leb headBytes (length envelope)) (marked s envelopeKind envelope) (leb (lengthOf envelope) rosterLimit) (eqb (length envelope) (envelopeBytes s (lengthOf envelope))) _
       (too-long envelope long))
     where
-      same : decided (leb headBytes (length front)) (marked s 4 front) (leb (lengthOf front) messageLimit)
-          ≡ decided (leb headBytes (length envelope)) (marked s 4 envelope) (leb (lengthOf envelope) messageLimit)
+      same : decided (leb headBytes (length front)) (marked s envelopeKind front) (leb (lengthOf front) rosterLimit)
+          ≡ decided (leb headBytes (length envelope)) (marked s envelopeKind envelope) (leb (lengthOf envelope) rosterLimit)
       same = rw (le-leb headBytes (length front) (omega (arith, front-long)), le-leb headBytes (length envelope) (omega arith), same-mark, same-length)
 
 -- a public record of p bytes, and m bytes after it
 envelope-cut : (p m : ℕ) (input : List ℕ) → p + m ≤ length input → drop p (take (p + m) input) ≡ take m (drop p input)
 envelope-cut p m input h = ap (drop p) (take-add p m input) ∙ drop-at (take p input) (take m (drop p input)) p (length-take-le p input (omega arith))
 
-cut-answers : (s : Numbers) (p m : ℕ) (input : List ℕ) → envelopeBytes s messageLimit < m → p + m ≤ length input
+cut-answers : (s : Numbers) (p m : ℕ) (input : List ℕ) → envelopeBytes s rosterLimit < m → p + m ≤ length input
     → answer ((leb p (length (take (p + m) input)) orElse 1) ∷ openTests s (take p (take (p + m) input)) (drop p (take (p + m) input)))
     ≡ answer ((leb p (length input) orElse 1) ∷ openTests s (take p input) (drop p input))
 cut-answers s p m input more long =
@@ -110,7 +110,7 @@ alike-opens a o =
 alike-same : {x y : List ℕ} → x ≡ y → Alike x y
 alike-same e = rw e (record { answers = refl; teams = refl; lengths = refl })
 
-alike-cut : (m : ℕ) (input : List ℕ) → envelopeBytes setI messageLimit < m → publicBytes setI + m ≤ length input
+alike-cut : (m : ℕ) (input : List ℕ) → envelopeBytes setI rosterLimit < m → publicBytes setI + m ≤ length input
     → Alike (take (publicBytes setI + m) input) input
 unfolding programTests
 alike-cut m input more long =

@@ -17,10 +17,14 @@ use Rattle.sampling.proofs.take_y.Kinds as take-y-kinds
 use Rattle.sampling.proofs.take_y.Reads as take-y
 use Rattle.sampling.proofs.take_positions.Kinds as take-positions-kinds
 use Rattle.sampling.proofs.take_positions.Reads as take-positions
+use Rattle.sampling.proofs.two_bytes.Kinds as two-bytes-kinds
+use Rattle.sampling.proofs.two_bytes.Reads as two-bytes
 use Rattle.sampling.proofs.digests.close_message.Kinds as close-message-kinds
 use Rattle.sampling.proofs.digests.close_message.Reads as close-message
 use Rattle.sampling.proofs.digests.message_digest.Kinds as message-digest-kinds
 use Rattle.sampling.proofs.digests.message_digest.Reads as message-digest
+use Rattle.sampling.proofs.digests.joined_digest.Kinds as joined-digest-kinds
+use Rattle.sampling.proofs.digests.joined_digest.Reads as joined-digest
 use Rattle.sampling.proofs.digests.key_digest.Kinds as key-digest-kinds
 use Rattle.sampling.proofs.digests.key_digest.Reads as key-digest
 use Rattle.sampling.proofs.digests.rand_of.Kinds as rand-of-kinds
@@ -59,13 +63,19 @@ take-positions-places κs a x y e f p q = same-output (p .positions) (q .positio
 pub take-positions-signs : Output 3 take-positions-kinds.ps take-positions-kinds.r take-positions.Learnt (λ κs e. now (e .1 .1 .0))
 take-positions-signs κs a x y e f p q = same-output (p .signs) (q .signs)
 
--- ---- digests
+-- ---- a number as two bytes, and digests
+
+pub two-bytes-determined : Result 0 two-bytes-kinds.ps two-bytes-kinds.r two-bytes.Learnt
+two-bytes-determined κs a x y e f p q = p ∙ sym q
 
 pub close-message-determined : Output 1 close-message-kinds.ps close-message-kinds.r close-message.Learnt (λ κs e. now (e .1 .1 .0))
 close-message-determined κs a x y e f p q = p .bytes ∙ sym (q .bytes)
 
 pub message-digest-determined : Output 2 message-digest-kinds.ps message-digest-kinds.r message-digest.Learnt (λ κs e. now (e .1 .1 .0))
 message-digest-determined κs a x y e f p q = p ∙ sym q
+
+pub joined-digest-determined : Output 3 joined-digest-kinds.ps joined-digest-kinds.r joined-digest.Learnt (λ κs e. now (e .1 .1 .1 .0))
+joined-digest-determined κs a x y e f p q = p ∙ sym q
 
 pub key-digest-determined : Output 2 key-digest-kinds.ps key-digest-kinds.r key-digest.Learnt (λ κs e. now (e .1 .1 .0))
 key-digest-determined κs a x y e f p q = p ∙ sym q

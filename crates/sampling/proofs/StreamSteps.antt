@@ -1,11 +1,11 @@
 -- The streams as the code makes them: a fresh state, inputs absorbed one after another, and what is squeezed or drawn then.
---     message-closed, message-digested      G of a message
+--     message-closed, joined-digested       G of a message
 --     key-digested, rand-made               g and rand
 --     y-started, y-drawn, enc-drawn         y and c
 -- Assumes nothing.
 use mathlib.Core.Path.{_≡_, ap, _∙_}
-use mathlib.Core.List.{List, [], _∷_, _++_, map}
-use Prim.Native.Nat.{ℕ, _+_, _*_, _/_, _%_, _^_, _<_}
+use mathlib.Core.List.{List, _++_, map}
+use Prim.Native.Nat.{ℕ, _+_, _*_}
 use native.Mathlib.Omega.{arith}
 use lib.IntN.{ℤ}
 use Rattle.whole.specs.Below.{Below}
@@ -21,7 +21,8 @@ use Rattle.sampling.specs.Candidates.{candidates}
 use Rattle.sampling.specs.Values.{values, lessOf}
 use Rattle.sampling.specs.Positions.{placesOf, AreDrawn}
 use Rattle.sampling.specs.Streams.{twoBytes, yOf, randOf, messageDigest, keyDigest, encOf}
-use Rattle.sampling.specs.SpongeLaws.{stream-squeezed, two-pieces, three-squeezed, two-below}
+use Rattle.sampling.specs.SpongeLaws.{stream-squeezed, two-pieces, three-squeezed}
+use Rattle.sampling.specs.TwoBytesLaws.{two-below}
 use Rattle.sampling.specs.Asks.{Less}
 use Rattle.sampling.specs.Promises.{ClosesMessage}
 
@@ -38,9 +39,11 @@ message-closed {set} {state} {out} good e long =
     bytes : out ≡ squeezed digestBytes state
     bytes = rw long at e
 
-pub message-digested : {set : Numbers} {s₀ s₁ : Sponge} {message out : List ℕ} → ClosesMessage set s₁ out → s₀ ≡ fresh (set .digit) 4
-    → s₁ ≡ absorbed s₀ message → Below 256 message → out ≡ messageDigest set message
-message-digested {message = message} closed e f below = closed .is message below (rw e at f)
+-- in two pieces
+pub joined-digested : {set : Numbers} {s₀ s₁ s₂ : Sponge} {front rest out : List ℕ} → ClosesMessage set s₂ out → s₀ ≡ fresh (set .digit) 4
+    → s₁ ≡ absorbed s₀ front → s₂ ≡ absorbed s₁ rest → Below 256 front → Below 256 rest → out ≡ messageDigest set (front ++ rest)
+joined-digested {set} {front = front} {rest} closed e f g x y =
+    closed .is (front ++ rest) (below-append 256 front rest x y) (two-pieces (fresh (set .digit) 4) front rest (rw e at f) g)
 
 -- ---- g and rand
 
@@ -59,14 +62,9 @@ module _ {set : Numbers} (good : Good set) {s₀ s₁ : Sponge} where
 
 -- ---- y
 
-pub y-started : (digit counter : ℕ) (rand : List ℕ) {s₀ s₁ s₂ : Sponge} → s₀ ≡ fresh digit 2 → s₁ ≡ absorbed s₀ rand
-    → s₂ ≡ absorbed s₁ ((counter % 256) ∷ (counter / 256) ∷ []) → counter < 2 ^ 16 → s₂ ≡ absorbed (fresh digit 2) (rand ++ twoBytes counter)
-y-started digit counter rand e first second small =
-    two-pieces (fresh digit 2) rand ((counter % 256) ∷ (counter / 256) ∷ []) (rw e at first) second
-    ∙ ap (λ (b : ℕ). absorbed (fresh digit 2) (rand ++ ((counter % 256) ∷ b ∷ []))) high
-  where
-    high : counter / 256 ≡ counter / 256 % 256
-    high = omega arith
+pub y-started : (digit counter : ℕ) (rand : List ℕ) {s₀ s₁ s₂ : Sponge} {bytes : List ℕ} → s₀ ≡ fresh digit 2 → s₁ ≡ absorbed s₀ rand
+    → bytes ≡ twoBytes counter → s₂ ≡ absorbed s₁ bytes → s₂ ≡ absorbed (fresh digit 2) (rand ++ twoBytes counter)
+y-started digit counter rand e first low-first second = two-pieces (fresh digit 2) rand (twoBytes counter) (rw e at first) (rw low-first at second)
 
 module _ {set : Numbers} (good : Good set) where
   -- a value for y less b

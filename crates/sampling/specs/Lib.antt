@@ -16,6 +16,7 @@ pub mod PositionsLaws
 pub mod SparseLaws
 pub mod StreamsLaws
 pub mod LoopsLaws
+pub mod TwoBytesLaws
 pub mod SpongeLaws
 pub mod DrawALaws
 pub mod Residues

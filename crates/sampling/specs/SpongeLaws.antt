@@ -22,11 +22,7 @@ use Rattle.sets.specs.declared.Numbers.{Numbers}
 use Rattle.sets.specs.Good.{Good}
 use Rattle.sets.specs.Limits.{seedBytes}
 use Rattle.sets.specs.Marks.{streamMark, fresh}
-use Rattle.sampling.specs.Streams.{twoBytes, challenge}
-
--- the two bytes of a number are bytes
-pub two-below : (x : ℕ) → Below 256 (twoBytes x)
-two-below x = below-cons (omega arith) (below-cons (omega arith) below-none)
+use Rattle.sampling.specs.Streams.{challenge}
 
 -- a mark is two bytes
 mark-below : (digit j : ℕ) → digit < 16 → j < 16 → Below 256 (streamMark digit j)

@@ -1,4 +1,5 @@
--- The seven streams: each is SHAKE256 over a two-byte mark and its inputs. What is drawn or hashed from each, and the high parts that H takes.
+-- The seven streams: each is SHAKE256 over a two-byte mark and its inputs. What is drawn or hashed from each, the message that a roster is, and the
+-- high parts that H takes.
 -- Bytes make numbers low byte first.
 -- Assumes nothing: these are definitions.
 use mathlib.Core.List.{List, [], _∷_, _++_, map}
@@ -23,6 +24,10 @@ stream s j inputs n = shake256 (streamMark (s .digit) j ++ inputs) n
 -- a number as two bytes, low first
 abbrev pub twoBytes : ℕ → List ℕ
 twoBytes x = (x % 256) ∷ (x / 256 % 256) ∷ []
+
+-- what is signed of a roster: the two bytes of its team number, then the roster
+abbrev pub rosterMessage : ℕ → List ℕ → List ℕ
+rosterMessage team roster = twoBytes team ++ roster
 
 -- ---- 1: a_1..a_k from seed_a: 4kn candidates of 4 bytes, range q, over all k polynomials
 

@@ -2,6 +2,7 @@
 use sets::Numbers;
 use shake::Sponge;
 ghost use mathlib.Core.Path.{_≡_};
+ghost use mathlib.Core.List.{_++_};
 ghost use lib.ListN.{length};
 ghost use Rattle.shake.specs.Sponge.{absorbed, squeezed};
 ghost use Rattle.sets.specs.Limits.{seedBytes, digestBytes};
@@ -17,12 +18,20 @@ pub fn close_message(set: Numbers, state: Sponge, out: &mut [u8])
     state.squeeze(out);
 }
 
+// G of a message in two pieces, front and then rest, into out. No buffer joins them.
+pub fn joined_digest(set: Numbers, front: &[u8], rest: &[u8], out: &mut [u8])
+    requires { ⌜ Digest set digestBytes (length (now out)) ⌝ }
+    ensures { λ _. ⌜ now (out .exit) ≡ messageDigest set (now (front .entry) ++ now (rest .entry)) ⌝ }
+{
+    close_message(set, set.fresh_message().absorb(front).absorb(rest), out)
+}
+
 // G of the message, into out.
 pub fn message_digest(set: Numbers, message: &[u8], out: &mut [u8])
     requires { ⌜ Digest set digestBytes (length (now out)) ⌝ }
     ensures { λ _. ⌜ now (out .exit) ≡ messageDigest set (now (message .entry)) ⌝ }
 {
-    close_message(set, set.fresh_message().absorb(message), out)
+    joined_digest(set, &message[..0], message, out)
 }
 
 // g of the packed t_1..t_k, into out.

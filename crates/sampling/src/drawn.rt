@@ -33,7 +33,7 @@ fn start_y(set: Numbers, rand: &[u8], counter: u16) -> Sponge
     requires { ⌜ set .digit < 16 ⌝ }
     ensures { λ r. ⌜ r ≡ absorbed (fresh (set .digit) 2) (now (rand .entry) ++ twoBytes counter) ⌝ }
 {
-    let low_first = [(counter % 256) as u8, (counter / 256) as u8];
+    let low_first = crate::two_bytes(counter);
     set.fresh_y().absorb(rand).absorb(&low_first)
 }
 

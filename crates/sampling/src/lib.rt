@@ -1,4 +1,5 @@
-// The candidate rules: what is taken of a stream's candidates, as values below a range and as positions with signs.
+// The candidate rules: what is taken of a stream's candidates, as values below a range and as positions with signs. And a number as two bytes,
+// as streams take it.
 pub mod digests;
 pub mod drawn;
 
@@ -11,6 +12,7 @@ ghost use Rattle.sets.specs.Good.{Good};
 ghost use Rattle.sets.specs.SetI.{setI};
 ghost use Rattle.sampling.specs.Candidates.{held, piece, candidates};
 ghost use Rattle.sampling.specs.Positions.{isIn, free, signOf, drawnCandidates};
+ghost use Rattle.sampling.specs.Streams.{twoBytes};
 ghost use Rattle.sampling.specs.Stretches.{part, partPositions, drawnAs};
 ghost use Rattle.sampling.specs.Values.{lessOf};
 ghost use Rattle.sampling.specs.Asks.{Reads, TakeValue, ValuesStretch, TakeLess, LessStretch, TakePosition, PositionsStretch};
@@ -19,6 +21,15 @@ ghost use Rattle.sampling.specs.Stored.{Stored, StoredDrawn};
 use answers::Answer;
 use sets::Numbers;
 use sets::SetI;
+
+// ---- numbers as bytes
+
+// The two bytes of a number, low first.
+pub fn two_bytes(x: u16) -> [u8; 2]
+    ensures { λ r. ⌜ r ≡ twoBytes x ⌝ }
+{
+    [(x % 256) as u8, (x / 256) as u8]
+}
 
 // ---- candidates
 

@@ -8,9 +8,13 @@ seedBytes = 32
 abbrev pub digestBytes : ℕ
 digestBytes = 40
 
--- the longest message, and the longest roster, in bytes
+-- the longest message, in bytes
 abbrev pub messageLimit : ℕ
 messageLimit = 32768
+
+-- the longest roster of an envelope, in bytes: the two of its team number are signed with it
+abbrev pub rosterLimit : ℕ
+rosterLimit = 32766
 
 -- the largest budget
 abbrev pub budgetLimit : ℕ

@@ -10,8 +10,11 @@ pub const SEED_BYTES: usize = 32;
 
 pub const DIGEST_BYTES: usize = 40;
 
-// The longest message and the longest roster, in bytes.
+// The longest message, in bytes.
 pub const MESSAGE_LIMIT: usize = 32768;
+
+// The longest roster of an envelope, in bytes: the two of its team number are signed with it.
+pub const ROSTER_LIMIT: usize = 32766;
 
 // The largest budget of counters.
 pub const BUDGET_LIMIT: u32 = 1024;

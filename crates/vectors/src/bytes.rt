@@ -116,6 +116,12 @@ pub fn room() -> [u8; 16384]
     [0xA5; 16384]
 }
 
+pub fn room_of_envelope() -> [u8; 40960]
+    ensures { λ r. ⌜ 40960 ≡ length r ⌝ }
+{
+    [0xA5; 40960]
+}
+
 pub fn room_of_words() -> [u32; 4100]
     ensures { λ r. ⌜ 4100 ≡ length r ⌝ }
 {
@@ -157,9 +163,14 @@ pub fn print_squeezed(sponge: Sponge) {
     print(&hash);
 }
 
+// The hash of the bytes.
+pub fn hash_all(bytes: &[u8]) {
+    print_squeezed(Sponge::blank().absorb(bytes));
+}
+
 // The hash of the first n bytes.
 pub fn hash(bytes: &[u8], n: usize) {
-    print_squeezed(Sponge::blank().absorb(part(bytes, 0, n)));
+    hash_all(part(bytes, 0, n));
 }
 
 // Document 01's number, as a byte.

@@ -1,7 +1,8 @@
 // Runs the sponge, the candidate rules, what is drawn and hashed from the seven streams, key making, signing, checking and the entries of
-// the three records, for set I, through the cases of standard input. A case is a letter and a piece: the piece's length in two bytes and as
-// many bytes. For each case a line is written in hexadecimal. Numbers are in four bytes where nothing else is said, and all have their low
-// byte first. A hash is 32 bytes of SHAKE256. `sponge`, `streams` and `scheme` say what a piece holds, and what is written.
+// the three records and of the envelope, for set I, through the cases of standard input. A case is a letter and a piece: the piece's length
+// in two bytes and as many bytes. For each case a line is written in hexadecimal. Numbers are in four bytes where nothing else is said, and
+// all have their low byte first. A hash is 32 bytes of SHAKE256. `sponge`, `streams` and `scheme` say what a piece holds, and what is
+// written.
 mod bytes;
 mod scheme;
 mod sponge;

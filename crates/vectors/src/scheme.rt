@@ -1,10 +1,12 @@
-// Key making, signing, checking and the entries of the three records. The memory stays between the cases, with all bytes A5 at first. Its
-// first bytes are the last piece but that of a W. A place is the start and the length of a stretch of the memory:
+// Key making, signing, checking and the entries of the three records and of the envelope. The memory stays between the cases, with all
+// bytes A5 at first. Its first bytes are the last piece but that of a W. A place is the start and the length of a stretch of the memory:
 //     W  start, bytes                           nothing: the bytes go into the memory, from start on
 //     K  places of secret, public, s, e_1..e_k, seed_a, seed_y
 //                                               of key making the number, and the hashes of public and secret
 //     S  places of signature, secret, message, r; budget
 //                                               of signing the number, the counter in 2 bytes, and the hash of the record
+//     R  places of signature, secret, roster, r; budget; team
+//                                               of signing the roster the number, the counter in 2 bytes, and the hash of the record
 //     C  places of public, message, signature   of checking the number
 //     P  places of public, t, seed_a            of writing the public record the number, and its hash
 //     Q  place of public; lengths of t, seed_a  of reading it the number, and the hashes of t and seed_a
@@ -14,16 +16,20 @@
 //                                               of reading it the number, and the hashes of the five
 //     Z  places of signature, z, c'             of writing the signature record the number, and its hash
 //     Y  place of signature; lengths of z, c'   of reading it the number, and the hashes of z and c'
+//     V  places of envelope, roster, signature; team
+//                                               of writing the envelope the number, and its hash
+//     N  place of envelope                      of reading it the number, the team number in 2 bytes, and the hashes of the roster and
+//                                               the signature record
+//     O  places of public, envelope             of opening it the number, the team number in 2 bytes, the hash of the roster of the
+//                                               length that came back, and the hash of the roster that `open_roster` gives
 // t and z have 4 bytes a value, in the memory and where they are hashed. A record that is written has a room of 16,384 bytes from its
-// start on, of which its length is lent, and the hash is that of the room after the call. Lengths of what is read count its values, and
-// every byte of it is A5 before the call.
+// start on, the envelope one of 40,960, of which its length is lent, and the hash is that of the room after the call. Lengths of what is
+// read count its values, and every byte of it is A5 before the call. The team number is the number modulo 65,536.
 use crate::bytes;
+use envelope::Opened;
 use signing::Signed;
 ghost use Prim.Native.Nat.{_<_};
 use shake::Sponge;
-
-// The bytes of a record's room.
-const ROOM: usize = 16384;
 
 // The stretch whose place stands from number i on.
 fn stretch(memory: &[u8], i: usize) -> &[u8]
@@ -62,7 +68,7 @@ fn make_key(memory: &mut [u8], secret: &mut [u8]) {
         &mut public[..n],
         secret,
     ));
-    bytes::hash(public, ROOM);
+    bytes::hash_all(public);
     store(public, memory, 2);
 }
 
@@ -82,6 +88,22 @@ fn sign(memory: &[u8], signature: &mut [u8]) {
     ));
 }
 
+// The team number that stands as number i.
+fn team(memory: &[u8], i: usize) -> u16 {
+    (bytes::word(memory, i) % 65536) as u16
+}
+
+fn sign_roster(memory: &[u8], signature: &mut [u8]) {
+    print_signed(signing::sign_roster(
+        stretch(memory, 2),
+        team(memory, 9),
+        stretch(memory, 4),
+        stretch(memory, 6),
+        bytes::word(memory, 8),
+        signature,
+    ));
+}
+
 fn check(memory: &[u8]) {
     bytes::print_answer(checking::check(
         stretch(memory, 0),
@@ -90,7 +112,7 @@ fn check(memory: &[u8]) {
     ));
 }
 
-// ---- the records written
+// ---- the records and the envelope written
 
 fn write_t(memory: &[u8], t: &mut [u32], public: &mut [u8]) {
     let n = bytes::words(stretch(memory, 2), t);
@@ -123,25 +145,45 @@ fn write_signature(memory: &[u8], signature: &mut [u8]) {
     write_z(memory, &mut z, signature);
 }
 
-// One record into what is lent of its room.
+fn write_envelope(memory: &[u8], envelope: &mut [u8]) {
+    bytes::print_answer(envelope::write(
+        team(memory, 6),
+        stretch(memory, 2),
+        stretch(memory, 4),
+        envelope,
+    ));
+}
+
+// One of them into what is lent of its room.
 fn write_lent(letter: u8, memory: &mut [u8], lent: &mut [u8]) {
     match letter {
         b'K' => make_key(memory, lent),
         b'S' => sign(memory, lent),
+        b'R' => sign_roster(memory, lent),
         b'P' => write_public(memory, lent),
         b'E' => write_secret(memory, lent),
+        b'V' => write_envelope(memory, lent),
         _ => write_signature(memory, lent),
     }
 }
 
-fn write_record(letter: u8, memory: &mut [u8]) {
-    let mut place = bytes::room();
-    let room: &mut [u8] = &mut place;
+// The room is taken from the memory, and put back after.
+fn write_room(letter: u8, memory: &mut [u8], room: &mut [u8]) {
     load(memory, 0, room);
     let n = bytes::fit(memory, 1, room);
     write_lent(letter, memory, &mut room[..n]);
-    bytes::hash(room, ROOM);
+    bytes::hash_all(room);
     store(room, memory, 0);
+}
+
+fn write(letter: u8, memory: &mut [u8]) {
+    if letter == b'V' {
+        let mut room = bytes::room_of_envelope();
+        write_room(letter, memory, &mut room);
+    } else {
+        let mut room = bytes::room();
+        write_room(letter, memory, &mut room);
+    }
 }
 
 // ---- the records read
@@ -218,6 +260,27 @@ fn read_g(memory: &[u8]) {
     bytes::hash(g, n);
 }
 
+// ---- the envelope read and opened
+
+// The number, the team number and the hash of the roster.
+fn print_opened(opened: Opened, envelope: &[u8]) {
+    let answer = opened.answer;
+    bytes::print_answer(answer);
+    bytes::print_pair(opened.team);
+    bytes::hash_all(envelope::roster(envelope, opened.len));
+}
+
+fn read_envelope(envelope: &[u8]) {
+    let opened = envelope::read(envelope);
+    print_opened(opened, envelope);
+    bytes::hash_all(envelope::signature(envelope, opened.len));
+}
+
+fn open_envelope(public: &[u8], envelope: &[u8]) {
+    print_opened(envelope::open(public, envelope), envelope);
+    bytes::hash_all(envelope::open_roster(public, envelope));
+}
+
 pub fn run(letter: u8, given: &[u8], memory: &mut [u8]) {
     if letter == b'W' {
         bytes::copy(bytes::rest(given, 4), memory, bytes::number(given, 0));
@@ -229,6 +292,8 @@ pub fn run(letter: u8, given: &[u8], memory: &mut [u8]) {
         b'Q' => read_public(memory),
         b'F' => read_g(memory),
         b'Y' => read_signature(memory),
-        _ => write_record(letter, memory),
+        b'N' => read_envelope(stretch(memory, 0)),
+        b'O' => open_envelope(stretch(memory, 0), stretch(memory, 2)),
+        _ => write(letter, memory),
     }
 }

@@ -20,3 +20,4 @@ pub mod Raised
 pub mod Every
 pub mod EveryLaws
 pub mod Determined
+pub mod TestsAlike

@@ -1,6 +1,6 @@
 -- `envelope::open_roster` meets its contract. Assumes nothing.
 use borrow.Author.Needs.{needs}
-use Rattle.envelope.proofs.ReadSteps.{roster-opened}
+use Rattle.envelope.specs.EnvelopeLaws.{opens-roster}
 use Rattle.envelope.proofs.open_roster.Statement.{statement}
 use Rattle.envelope.proofs.open_roster.Tie as tie
 
@@ -10,4 +10,4 @@ open-roster-spec =
     (tie.spec
     (λ c κs. search needs)
     (λ c κs. search needs)
-    (λ c. search (roster-opened, needs)))
+    (λ c. search (opens-roster, needs)))

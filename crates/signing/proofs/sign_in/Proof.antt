@@ -1,7 +1,7 @@
 -- `signing::sign_in` meets its contract. Assumes nothing.
 use borrow.Author.Needs.{needs}
 use Rattle.sets.specs.Known.{known-good}
-use Rattle.signing.proofs.SignSteps.{sign-refused, sign-goes-on, search-asked}
+use Rattle.signing.proofs.SignSteps.{joined-length, sign-refused, sign-goes-on, search-asked}
 use Rattle.signing.proofs.sign_in.Statement.{statement}
 use Rattle.signing.proofs.sign_in.Tie as tie
 
@@ -11,7 +11,7 @@ sign-in-spec =
     (tie.spec
     (λ c κs. search (known-good, needs))
     (λ c κs. search needs)
-    (λ c. search (sign-refused, needs))
-    (λ c κs. search (search-asked, known-good, needs))
+    (λ c. search (joined-length, sign-refused, needs))
+    (λ c κs. (search needs, search (search-asked, c .before .before .before .test-inputs .ensures, known-good, needs)))
     (λ c. search needs)
-    (λ c. search (sign-goes-on, needs)))
+    (λ c. search (joined-length, sign-goes-on, needs)))

@@ -11,8 +11,7 @@ pub start-y-spec : {M : Type 1} → statement M
 start-y-spec =
     tie.close
     (tie.spec
-    (λ c. search needs)
-    (λ c. search needs)
+    (λ c κs. search needs)
     (λ c κs. search needs)
     (λ c κs. search needs)
     (λ c. search needs)

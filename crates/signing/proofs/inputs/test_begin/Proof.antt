@@ -16,6 +16,7 @@ test-begin-spec =
     (λ c. search (tests, needs))
     (λ c κs. search needs)
     (λ c. search (tests, needs) depth 12)
+    (λ c κs. search needs)
     (λ c. search (tests, needs) depth 12)
     (λ c. search (tests, needs) depth 12)
     (λ c. search (tests, needs) depth 12)
