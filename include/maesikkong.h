@@ -70,8 +70,8 @@ uint8_t maesikkong_make_key(const uint8_t *s, size_t s_len, const uint8_t *e, si
 uint8_t maesikkong_sign(const uint8_t *secret_record, size_t secret_len, const uint8_t *message, size_t message_len, const uint8_t *r,
                         size_t r_len, uint32_t budget, uint8_t *signature, size_t signature_len, uint16_t *counter);
 
-/* Signs a roster for an envelope: what is signed is the team number in two bytes, low first, and then the roster, which need not be joined.
- * Answers and writes what maesikkong_sign does on the joined bytes.
+/* Signs a roster for an envelope: what is signed is the team number in two bytes, low first, and then the roster. No buffer has to join them:
+ * this answers and writes what maesikkong_sign does on the joined bytes.
  * secret_record 5,226 bytes, roster up to 32,766, r 32, signature 2,594, budget 1 to 1,024. Answers 0 to 8.
  * signature: the signature record; on a refusal untouched. *counter: as in signing; on a refusal 0. */
 uint8_t maesikkong_sign_roster(const uint8_t *secret_record, size_t secret_len, uint16_t team, const uint8_t *roster, size_t roster_len,

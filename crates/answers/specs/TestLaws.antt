@@ -127,7 +127,7 @@ passes-at ts n e i = go ts i (passes-all ts n e)
     go (t ∷ us) zero p = p .0
     go (t ∷ us) (suc j) p = go us j (p .1)
 
--- the same of the number that a function answered: `done` is whether it is 0
+-- where a function answered 0, every test passes: `done` is whether its number is 0
 pub passed : {ts : List Test} {number : ℕ} {done : Bool} → Answered ts number → done ≡ eqb number 0 → done ≡ true → answer ts ≡ 0
 passed {number = number} a e h = sym (a .is) ∙ eqb-true number 0 (sym e ∙ h)
 
