@@ -1,7 +1,7 @@
 -- What the code computes on one number is what two's complement says: z + 2^b for a negative z, and x − 2^b for bits from 2^(b − 1) on.
 -- Both are taken in an i64, where they fit.
 -- Assumes nothing.
-use mathlib.Core.Path.{◌≡◌, sym, ap, ap₂, ◌∙◌}
+use mathlib.Core.Path.{◌≡◌, sym, ap, ap₂, subst⁻¹, ◌∙◌}
 use mathlib.Core.List.{List}
 use mathlib.Core.Bool.{true, false, true≢false}
 use Prim.Native.Nat.{ℕ, ◌+◌, ◌*◌, ◌%◌, ◌-◌, ◌^◌, ◌≤◌, ◌<◌}
@@ -13,7 +13,7 @@ use lib.Signed.{lt_z}
 use borrow.Author.Tests.{ltb-true}
 use mir.Syntax.{w32, w64}
 use mir.Val.{SFits, to_z, of_z}
-use mir.Facts.{to_z-of_z, to_z_pos}
+use mir.Facts.{to_z-of_z, to_z_pos, sfits_widen}
 use Rattle.whole.specs.Int.{int, sum_is}
 use Rattle.whole.specs.ResidueLaws.{residue_lt, residue_small}
 use Rattle.whole.specs.Twos.{InBits, signed, twos}
@@ -65,6 +65,10 @@ module _ {b : ℕ} {z : ℤ} (p : ((0 < b) × (b < 32)) × InBits b z) where
           let l = halves b p.0.0 in
           omega (int, sum_is (pos (2 ^ b)) (negsuc a), twos_below b a (omega (arith, s.above)), s.above)
 
+  pub raised_fits : lt_z (to_z w32 (of_z w32 z)) (pos 0) ≡ true
+      → SFits w64 (to_z w64 ((1 * 2 ^ b) % 2 ^ 64) +ℤ to_z w64 (of_z w64 (to_z w32 (of_z w32 z))))
+  raised_fits t = subst⁻¹ (SFits w64) (raised t) (record { sfits = omega (arith, twos_fits) })
+
   -- any other stays
   pub kept : lt_z (to_z w32 (of_z w32 z)) (pos 0) ≡ false → to_z w32 (of_z w32 z) ≡ pos (twos b z)
   kept t = same_i32 ∙ go z p.1 (rw same_i32 at t)
@@ -84,6 +88,13 @@ module _ {b x : ℕ} (p : ((0 < b) × (b < 32)) × (x < 2 ^ b)) where
   lowered t =
       let m : 2 ^ b ≤ 2 ^ 32 = pow_mono {i = b} {j = 32} (omega arith) in
       ap₂ ◌-ℤ◌ (to_z_pos w64 {n = x} (omega arith)) (power b p.0.1) ∙ sym (signed_high b x (omega (arith, sign b p.0)))
+
+  lowered_fits : (1 * 2 ^ (b - 1)) % 2 ^ 32 ≤ x → SFits w64 (to_z w64 x -ℤ to_z w64 ((1 * 2 ^ b) % 2 ^ 64))
+  lowered_fits t = subst⁻¹ (SFits w64) (lowered t) (sfits_widen {w = w32} tt signed_fits)
+
+  pub lowered_reads : (1 * 2 ^ (b - 1)) % 2 ^ 32 ≤ x
+      → to_z w32 (of_z w32 (to_z w64 (of_z w64 (to_z w64 x -ℤ to_z w64 ((1 * 2 ^ b) % 2 ^ 64))))) ≡ signed b x
+  lowered_reads t = rw (to_z-of_z (lowered_fits t), lowered t) (to_z-of_z signed_fits)
 
   -- any others stay
   module _ (t : x < (1 * 2 ^ (b - 1)) % 2 ^ 32) where

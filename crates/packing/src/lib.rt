@@ -1,4 +1,6 @@
 // A polynomial's values packed at b bits each: coefficient 0 first, lowest bit of the lowest byte first.
+#![tactic(auto)]
+
 pub mod twos;
 
 ghost use Rattle.std.specs.Prelude.{◌≡◌, ◌++◌, ◌+◌, ◌*◌, ◌%◌, ◌^◌, ◌≤◌, ◌<◌, length, get_or, drop};

@@ -1,0 +1,10 @@
+use Prim.Native.Nat.{◌<◌, ◌-◌}
+use lib.ListN.{length}
+use Rattle.packing.proofs.Steps.{Unpacking}
+use Rattle.packing.proofs.unpack.Given as goal
+
+abbrev pub invariant-loop-k : goal.invariant-loop-k
+invariant-loop-k l = (l.have < l.b) × Unpacking l.b l.src l.initial.out l.out l.acc l.have l.at l.k
+
+abbrev pub decreases-loop-k : goal.decreases-loop-k
+decreases-loop-k l = length l.src - l.k
