@@ -1,4 +1,7 @@
 // The high part of a residue, and the two tests on w, for any q and d.
+
+#![tactic(auto)]
+
 pub mod polynomial;
 
 ghost use Rattle.std.specs.Prelude.{◌≡◌, ◌<◌, ◌^◌, pos, neg_ℤ, nat_abs};

@@ -1,0 +1,10 @@
+-- `rounding::low_magnitude` meets its contract. Assumes nothing.
+use borrow.Author.Rules.{rules}
+use Rattle.rounding.proofs.Laws.{low_near, low_far}
+use Rattle.rounding.proofs.low_magnitude.Goals as goal
+
+pub returns-then-rest-half : goal.returns-then-rest-half
+returns-then-rest-half c = search (low_near, rules)
+
+pub returns-else-rest-half : goal.returns-else-rest-half
+returns-else-rest-half c = search (low_far, rules)
