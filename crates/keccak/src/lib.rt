@@ -1,4 +1,6 @@
 // Keccak-f[1600], the permutation of FIPS 202, on 25 lanes of 64 bits: lane (x, y) stands at x + 5 * y.
+#![tactic(auto)]
+
 mod constants;
 
 ghost use Rattle.std.specs.Prelude.{◌≡◌};
