@@ -1,4 +1,6 @@
 // SHAKE256 as a sponge that is handed on by value.
+#![tactic(auto)]
+
 ghost use Rattle.std.specs.Prelude.{◌≡◌, Bool, true, [], ◌∷◌, ◌<◌, length};
 ghost use Rattle.shake.specs.Sponge.{xor_at, byte_at, blank, passed, absorbable, absorbed, ended, squeezable, bytes_of, state_after, squeezed, after_squeeze};
 
