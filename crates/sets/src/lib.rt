@@ -1,4 +1,6 @@
 // The numbers of a set of parameters with its fresh sponges, the lengths and limits that no set changes, and set I, qTESLA-p-I.
+#![tactic(auto)]
+
 ghost use Rattle.std.specs.Prelude.{◌≡◌, ◌<◌};
 ghost use Rattle.sets.specs.Marks.{fresh};
 ghost use Rattle.sets.specs.SetI.{set_i};
