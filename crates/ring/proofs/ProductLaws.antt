@@ -11,7 +11,7 @@ use lib.IntN.{ℤ, pos, ◌+ℤ◌, ◌-ℤ◌, ◌*ℤ◌}
 use Rattle.whole.specs.Int.{int, sum_is, minus_is, *ℤ-assoc}
 use Rattle.whole.specs.Residue.{residue, Same}
 use Rattle.whole.specs.ResidueLaws.{residue_is, residue_eq_same, same_refl, same_sym, same_trans, same_minus}
-use Rattle.whole.specs.Sum.{sum, total}
+use Rattle.whole.specs.Sum.{total}
 use Rattle.whole.specs.SumLaws.{sum_total, total_ext}
 use Rattle.whole.specs.BelowLaws.{below_more, below_drop, below_take}
 use Rattle.ring.specs.Product.{mul}

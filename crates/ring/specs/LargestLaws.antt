@@ -70,8 +70,11 @@ largest_take h x xs = omega (arith, push_added x (places h xs), largest_last h (
 
 fallen_over : (x : ℕ) {l : ℕ} {ps : List ℕ} → Over l ps → fallen x ps < l → fallen x ps ≡ x
 unfolding fallen
-fallen_over x none h = refl
-fallen_over x (more p le o) h = omega (arith, fallen_over (min x p) o h)
+fallen_over x {l} = falls x
+  where
+    falls : (x : ℕ) {ps : List ℕ} → Over l ps → fallen x ps < l → fallen x ps ≡ x
+    falls x none h = refl
+    falls x (more p le o) h = omega (arith, falls (min x p) o h)
 
 over_fallen : (x : ℕ) (ps : List ℕ) → Over (fallen x ps) (push x ps)
 unfolding push fallen
@@ -80,8 +83,11 @@ over_fallen x (p ∷ ps) = more (max x p) (omega (arith, fallen_le (min x p) ps)
 
 over_push : (x : ℕ) {l : ℕ} {ps : List ℕ} → Over l ps → Over l (push x ps)
 unfolding push
-over_push x none = none
-over_push x (more p le o) = more (max x p) (omega arith) (over_push (min x p) o)
+over_push x {l} = pushed x
+  where
+    pushed : (x : ℕ) {ps : List ℕ} → Over l ps → Over l (push x ps)
+    pushed x none = none
+    pushed x (more p le o) = more (max x p) (omega arith) (pushed (min x p) o)
 
 over_max : {a b : ℕ} {ps : List ℕ} → Over a ps → Over b ps → Over (max a b) ps
 over_max none none = none

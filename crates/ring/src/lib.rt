@@ -1,4 +1,6 @@
 // Polynomials with xⁿ = −1, over a run-time n and q, on lent slices.
+#![tactic(auto)]
+
 pub mod largest;
 pub mod product;
 pub mod sparse;

@@ -1,0 +1,11 @@
+use native.Mathlib.Omega.{arith}
+use Rattle.whole.specs.Fill.{wrote_none, wrote_more}
+use Rattle.ring.proofs.ProductLaws.{row_of}
+use Rattle.ring.proofs.product.multiply.Goals as goal
+
+pub loop-k-init : goal.loop-k-init
+loop-k-init c = wrote_none
+
+pub loop-k-preserved : goal.loop-k-preserved
+loop-k-preserved c =
+    wrote_more c.loop-k.invariant (omega arith) (row_of c.requires c.loop-k.k c.row.ensures)
