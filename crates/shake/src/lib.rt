@@ -93,6 +93,7 @@ impl Sponge {
     }
 
     // What an absorb acts on.
+    #[tactic(auto, using(crate::specs::Pieces::absorbable_is, crate::proofs::Steps::absorbable_squeezing, crate::proofs::Steps::absorbable_out))]
     fn absorbable(self) -> Sponge
         ensures { result ≡ absorbable self }
     {
