@@ -1,5 +1,7 @@
 // What comes back: document 01's numbers, one case for each, whichever entry answers it. Which of them an entry can give is said by its
 // list of tests; signing's 8 and 10 come from its search.
+#![tactic(auto)]
+
 ghost use Rattle.std.specs.Prelude.{◌≡◌, eqb};
 ghost use Rattle.answers.specs.Answers.{number_of};
 
