@@ -1,5 +1,7 @@
 // The candidate rules: what is taken of a stream's candidates, as values below a range and as positions with signs. And a number as two bytes,
 // as streams take it.
+#![tactic(auto)]
+
 pub mod digests;
 pub mod drawn;
 

@@ -22,7 +22,7 @@ pub const ROSTER_LIMIT: usize = 32766;
 pub const BUDGET_LIMIT: u32 = 1024;
 
 // What a part of the scheme takes from its set.
-#[derive(Drop)]
+#[derive(Clone, Copy)]
 pub struct Numbers {
     // coefficients of a polynomial
     pub n: usize,
