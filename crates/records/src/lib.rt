@@ -1,4 +1,7 @@
 // The public and the secret record: written from their values and read into them. The entries of set I.
+
+#![tactic(auto)]
+
 pub mod pieces;
 pub mod public;
 pub mod secret;

@@ -1,0 +1,7 @@
+-- `records::secret::take_out` meets its contract. Assumes nothing.
+use borrow.Author.Rules.{rules}
+use Rattle.records.proofs.SecretSteps.{take_s, take_e}
+use Rattle.records.proofs.secret.take_out.Goals as goal
+
+pub returns : goal.returns
+returns c = search (take_s, take_e, rules)
