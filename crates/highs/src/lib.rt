@@ -1,5 +1,7 @@
 // What H takes first: the high parts of polynomials, one signed byte each, absorbed one polynomial after another. The signer has those of
 // v_1..v_k, the receiver those of w_1..w_k.
+#![tactic(auto)]
+
 ghost use Rattle.std.specs.Prelude.{◌≡◌, []};
 ghost use Rattle.sets.specs.Good.{Good};
 ghost use Rattle.sets.specs.Known.{Known};

@@ -1,0 +1,7 @@
+-- `highs::add_highs_in` meets its contract. Assumes nothing.
+use borrow.Author.Rules.{rules}
+use Rattle.highs.proofs.Steps.{highs_added}
+use Rattle.highs.proofs.add_highs_in.Goals as goal
+
+pub returns : goal.returns
+returns c = search (highs_added, rules)
