@@ -1,4 +1,7 @@
 // Key making, Algorithm 1.
+
+#![tactic(auto)]
+
 mod public;
 mod secret;
 pub mod tests;
