@@ -1,4 +1,7 @@
 // The signature record: mark 3, z at its width in two's complement, c'.
+
+#![tactic(auto)]
+
 ghost use Rattle.std.specs.Prelude.{◌≡◌, ◌++◌, map, ◌-◌, nat_abs};
 ghost use Rattle.whole.specs.Every.{every};
 ghost use Rattle.whole.specs.Twos.{signed};

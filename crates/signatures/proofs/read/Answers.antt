@@ -1,0 +1,14 @@
+-- The goals of `signatures::read` that want an answer by hand. Assumes nothing.
+use borrow.Author.Rules.{rules}
+use Rattle.answers.specs.OutputLaws.{made_done, kept_refused}
+use Rattle.signatures.proofs.Steps.{read_takes}
+use Rattle.signatures.proofs.read.Goals as goal
+
+pub take_out-requires-clause-takes_signature : goal.take_out-requires-clause-takes_signature
+take_out-requires-clause-takes_signature c = search (read_takes, rules)
+
+pub returns-then-is_done : goal.returns-then-is_done
+returns-then-is_done c = search (made_done, rules)
+
+pub returns-else-is_done : goal.returns-else-is_done
+returns-else-is_done c = search (kept_refused, rules)
