@@ -17,9 +17,10 @@ use Rattle.sampling.specs.Candidates.{held, candidates}
 use Rattle.sampling.specs.CandidatesLaws.{candidates_length}
 use Rattle.sampling.specs.Values.{values, less_of}
 use Rattle.sampling.specs.Positions.{Drawn, positions, drawn_candidates}
-use Rattle.sampling.specs.ValuesLaws.{values_part, values_length}
+use Rattle.sampling.specs.ValuesLaws.{values_part}
 use Rattle.sampling.specs.Stretches.{part, part_positions}
-use Rattle.sampling.specs.PositionsLaws.{positions_part, positions_length, drawn_length}
+use Rattle.sampling.specs.PositionsLaws.{positions_part, drawn_length}
+use Rattle.sampling.proofs.DrawnLengths.{values_length, positions_length}
 use Rattle.sampling.specs.Stored.{Stored, StoredDrawn, stored_whole}
 use Rattle.sampling.specs.Lent.{lent_a, lent_y, tests_enc, lent_enc}
 use Rattle.sampling.specs.Promises.{TakesA, TakesY, TakesPositions}

@@ -1,3 +1,5 @@
+pub mod DrawnLengths
+pub mod DrawnLoops
 pub mod CandidateSteps
 pub mod ValueSteps
 pub mod PositionSteps

@@ -2,17 +2,15 @@
 -- (`more`), over any range and n:
 --     values_loop       the values are the first in-range candidates, in order
 --     positions_loop    the positions with signs are the first candidates whose position was not taken before, in order
---     all_a_loop, y_of_loop, enc_of_loop     so it is for a_1..a_k, y and c
+-- So it is for a_1..a_k, y and c: proofs/DrawnLoops.
 -- Assumes nothing.
-use Rattle.std.specs.Prelude.{◌≡◌, refl, Bool, true, false, cond, ℕ, zero, suc, ◌+◌, ◌*◌, ◌≤◌, ltb, length, take}
+use Rattle.std.specs.Prelude.{◌≡◌, refl, Bool, true, false, cond, ℕ, zero, suc, ◌≤◌, ltb, length, take}
 use Rattle.std.proofs.Math.Path.{ap}
-use mathlib.Core.List.{List, [], ◌∷◌, ◌++◌, map}
+use mathlib.Core.List.{List, [], ◌∷◌, ◌++◌}
 use Rattle.std.proofs.Common.{zero-le, suc-le-suc, le_of_suc-le-suc, le_trans, arith, le-ltb}
-use Rattle.sets.specs.declared.Numbers.{Numbers}
-use Rattle.sampling.specs.Candidates.{emit, candidates}
-use Rattle.sampling.specs.Values.{values, less_of}
-use Rattle.sampling.specs.Positions.{Drawn, is_in, positions, drawn_candidates}
-use Rattle.sampling.specs.Streams.{stream, two_bytes, all_a, y_of, enc_of}
+use Rattle.sampling.specs.Candidates.{emit}
+use Rattle.sampling.specs.Values.{values}
+use Rattle.sampling.specs.Positions.{Drawn, is_in, positions}
 use Rattle.sampling.specs.FreeLaws.{free_here}
 use Rattle.sampling.specs.Loops.{in_range, untaken}
 
@@ -65,24 +63,3 @@ positions_loop n (suc need) ps (c ∷ cs) more h = go (λ m qs. positions_loop n
         → positions n (suc need) ps (c ∷ cs) ≡ take (suc need) (cond t (untaken ps (cs ++ more)) (c ∷ untaken (c.position ∷ ps) (cs ++ more)))
     go ih true e h = rw (e, le-ltb (length cs) (suc need) (le_trans h (untaken_short ps cs))) (ih (suc need) ps h)
     go ih false e h = rw (e, free_here n n c.position ps e) (ap (λ (l : List Drawn). c ∷ l) (ih need (c.position ∷ ps) (le_of_suc-le-suc h)))
-
--- ---- what is drawn
-
-module _ (s : Numbers) where
-  pub all_a_loop : (seed_a more : List ℕ)
-      → let held = candidates 4 s.t_bits (stream s 1 seed_a (4 * (4 * (s.k * s.n)))) in
-      s.k * s.n ≤ length (in_range s.q held) → all_a s seed_a ≡ take (s.k * s.n) (in_range s.q (held ++ more))
-  unfolding all_a
-  all_a_loop seed_a more h = values_loop s.q (s.k * s.n) _ more h
-
-  pub y_of_loop : (rand : List ℕ) (counter : ℕ) (more : List ℕ)
-      → let held = candidates 3 s.z_bits (stream s 2 (rand ++ two_bytes counter) (3 * (2 * s.n))) in
-      s.n ≤ length (in_range (2 * s.b + 1) held) → y_of s rand counter ≡ map (less_of s.b) (take s.n (in_range (2 * s.b + 1) (held ++ more)))
-  unfolding y_of
-  y_of_loop rand counter more h = ap (map (less_of s.b)) (values_loop (2 * s.b + 1) s.n _ more h)
-
-  pub enc_of_loop : (c' : List ℕ) (more : List Drawn)
-      → let held = drawn_candidates s.position_bits (stream s 7 c' (3 * 256)) in
-      s.h ≤ length (untaken [] held) → enc_of s c' ≡ take s.h (untaken [] (held ++ more))
-  unfolding enc_of
-  enc_of_loop c' more h = positions_loop s.n s.h [] _ more h

@@ -3,14 +3,13 @@
 --     part_positions_fresh, -repeated, -moved     what becomes of one candidate
 --     part_positions_append                       a stretch in two parts
 --     positions_part                              the positions of all candidates are the part with none after it
---     positions_length                            as many as are needed
 --     positions_inside, positions_signs           each below n, with the sign of a candidate
 --     positions_distinct                          none comes twice
 --     positions_append                            the positions of a stretch, then those of the candidates after it
 --     drawn_length, drawn_at, drawn_inside, drawn_signs, drawn_append     the candidates of a stream
--- Assumes nothing.
+-- That they are as many as are needed: proofs/DrawnLengths. Assumes nothing.
 use Rattle.std.specs.Prelude.{◌≡◌, refl, Bool, true, false, cond, not, ◌||◌, ◌⊎◌, List, [], ◌∷◌, ◌++◌, ℕ, zero, suc, ◌+◌, ◌-◌, ◌/◌, ◌%◌, ◌^◌, ◌≤◌, ◌<◌, ltb, eqb, ℤ, pos, negsuc, length, get_or}
-use Rattle.std.proofs.Common.{sym, ap, ◌∙◌, inl, inr, append-nil, zero-le, suc-le-suc, le_refl, le_antisymm, le_of_suc-le-suc, add-zero, add_assoc, mod-lt, not-suc-le-zero, arith, pow_pos, length-append, lt-ltb, le-ltb, ltb-false}
+use Rattle.std.proofs.Common.{sym, ap, ◌∙◌, inl, inr, append-nil, zero-le, suc-le-suc, le_refl, le_of_suc-le-suc, add-zero, add_assoc, mod-lt, not-suc-le-zero, arith, pow_pos, length-append, lt-ltb, le-ltb, ltb-false}
 use Rattle.std.proofs.lemmas.Bool.{false≢true}
 use Rattle.std.proofs.Math.Nat.{suc-sub-suc, sub-zero}
 use Rattle.ring.specs.Sparse.{Sign}
@@ -224,10 +223,6 @@ positions_part n (suc need) ps (c ∷ cs) =
         ≡ emit t (placed n ps c) (part_positions n (cond t need (suc need)) 0 (cond t (free n n c.position ps ∷ ps) ps) cs)
     go ih true = ap (λ (l : List Drawn). placed n ps c ∷ l) (ih need (free n n c.position ps ∷ ps))
     go ih false = ih (suc need) ps
-
-pub positions_length : (n need : ℕ) (ps : List ℕ) (cs : List Drawn) → need ≤ length cs → length (positions n need ps cs) ≡ need
-positions_length n need ps cs h =
-    rw (positions_part n need ps cs) (le_antisymm (part_positions_most n need 0 ps cs) (omega (arith, part_positions_enough n need 0 ps cs (omega arith))))
 
 pub positions_inside : (n need : ℕ) (ps : List ℕ) (cs : List Drawn) → Below n (positions_of cs) → Below n (positions_of (positions n need ps cs))
 positions_inside n need ps cs = rw (positions_part n need ps cs) (part_positions_inside n need 0 ps cs)

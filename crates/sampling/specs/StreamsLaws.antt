@@ -1,13 +1,12 @@
 -- What is drawn from the streams, for every set of numbers that is good:
 --     shake_length                        n bytes of SHAKE256 are n
---     all_a_length, all_a_below             a_1..a_k together are k · n values below q
---     a_of_length                          each a_i is n values
---     y_of_length, y_of_size                y is n values, each at most b in size
---     enc_of_length, enc_of_signed, enc_of_distinct   c is h different positions below n, each with a sign +1 or −1
---     enc_terms                           the same of the two lists that hold it
---     enc_of_small, enc_of_total            as a polynomial it has at most h entries ±1, and 0 elsewhere
+--     all_a_below                         the values of a_1..a_k are below q
+--     y_of_size                           each of y is at most b in size
+--     enc_of_signed, enc_of_distinct      c is different positions below n, each with a sign +1 or −1
+--     enc_of_small                        as a polynomial its entries are ±1 or 0
+-- That there are as many as are needed: proofs/DrawnLengths.
 -- Assumes nothing.
-use Rattle.std.specs.Prelude.{◌≡◌, ℕ, zero, suc, ◌+◌, ◌*◌, ◌/◌, ◌^◌, ◌≤◌, ◌<◌, ℤ, pos, nat_abs, ◌-ℤ◌, length, get_or}
+use Rattle.std.specs.Prelude.{◌≡◌, ℕ, zero, suc, ◌+◌, ◌*◌, ◌/◌, ◌^◌, ◌≤◌, ◌<◌, pos, nat_abs, ◌-ℤ◌, length, get_or}
 use Rattle.std.proofs.Math.Path.{sym}
 use Rattle.std.proofs.Common.{ap, ◌∙◌, subst, zero-le, arith}
 use mathlib.Core.List.{List, [], ◌∷◌, ◌++◌, map}
@@ -16,25 +15,20 @@ use Rattle.std.proofs.Math.ListN.{length-map}
 use Rattle.whole.specs.Int.{minus_is, abs_le_from}
 use Rattle.whole.specs.Below.{Below}
 use Rattle.whole.specs.BelowLaws.{below_tail, below_more}
-use Rattle.whole.specs.Sum.{total}
 use Rattle.whole.specs.TableLaws.{length_table}
-use Rattle.whole.specs.Parts.{part_length}
-use Rattle.whole.specs.Rows.{row_within}
 use Rattle.shake.specs.Shake256.{shake256}
 use Rattle.ring.specs.Sparse.{Signed, Sign}
 use Rattle.sets.specs.declared.Numbers.{Numbers}
 use Rattle.sets.specs.Good.{Good}
 use Rattle.sampling.specs.Candidates.{held, candidates}
-use Rattle.sampling.specs.Values.{values, less_of}
-use Rattle.sampling.specs.Positions.{Drawn, drawn_candidates, positions_of, signs_of, AreDrawn, polynomial_of}
-use Rattle.sets.specs.Marks.{stream_mark}
-use Rattle.sampling.specs.Streams.{stream, two_bytes, all_a, a_of, y_of, enc_of}
-use Rattle.sampling.specs.Asks.{Terms}
-use Rattle.sampling.specs.CandidatesLaws.{candidates_length, candidates_below}
-use Rattle.sampling.specs.ValuesLaws.{values_length, values_below}
+use Rattle.sampling.specs.Values.{values}
+use Rattle.sampling.specs.Positions.{Drawn, drawn_candidates, positions_of, signs_of, polynomial_of}
+use Rattle.sampling.specs.Streams.{stream, two_bytes, all_a, y_of, enc_of}
+use Rattle.sampling.specs.CandidatesLaws.{candidates_below}
+use Rattle.sampling.specs.ValuesLaws.{values_below}
 use Rattle.sampling.specs.FreeLaws.{Distinct}
-use Rattle.sampling.specs.PositionsLaws.{positions_length, positions_inside, positions_signs, positions_distinct, drawn_length, drawn_inside, drawn_signs}
-use Rattle.sampling.specs.SparseLaws.{sparse_small, sparse_total}
+use Rattle.sampling.specs.PositionsLaws.{positions_inside, positions_signs, positions_distinct, drawn_inside, drawn_signs}
+use Rattle.sampling.specs.SparseLaws.{sparse_small}
 
 -- ---- SHAKE256
 
@@ -43,14 +37,8 @@ unfolding shake256
 shake_length message n = length_table n _
 
 -- a stream holds as many candidates as it was made for
-held_stream : (size m : ℕ) (message : List ℕ) → 0 < size → held size (shake256 message (size * m)) ≡ m
+pub held_stream : (size m : ℕ) (message : List ℕ) → 0 < size → held size (shake256 message (size * m)) ≡ m
 held_stream size m message h = ap (λ (k : ℕ). k / size) (shake_length message (size * m)) ∙ mul-div_right m h
-
-drawn_enough : (range need size bits m : ℕ) (message : List ℕ) → 0 < size → need ≤ m
-    → length (values range need (candidates size bits (shake256 message (size * m)))) ≡ need
-drawn_enough range need size bits m message h l =
-    values_length range need (candidates size bits (shake256 message (size * m)))
-    (omega (arith, candidates_length size bits (shake256 message (size * m)), held_stream size m message h))
 
 pub drawn_below : (range need size bits : ℕ) (bytes : List ℕ) → 2 ^ bits ≤ 2 * range → Below range (values range need (candidates size bits bytes))
 drawn_below range need size bits bytes h =
@@ -66,35 +54,20 @@ less_size b (v ∷ vs) zero h = less_small b v (omega (arith, h.at 0 (omega arit
 less_size b (v ∷ vs) (suc i) h = less_size b vs i (below_tail h)
 
 -- the values drawn for y, and the candidates for c
-abbrev drawn_y : Numbers → List ℕ → ℕ → List ℕ
+abbrev pub drawn_y : Numbers → List ℕ → ℕ → List ℕ
 drawn_y s rand counter = values (2 * s.b + 1) s.n (candidates 3 s.z_bits (stream s 2 (rand ++ two_bytes counter) (3 * (2 * s.n))))
 
-abbrev drawn_enc : Numbers → List ℕ → List Drawn
+abbrev pub drawn_enc : Numbers → List ℕ → List Drawn
 drawn_enc s c' = drawn_candidates s.position_bits (stream s 7 c' (3 * 256))
 
 module _ (s : Numbers) (g : Good s) where
   -- ---- a
 
-  pub all_a_length : (seed_a : List ℕ) → length (all_a s seed_a) ≡ s.k * s.n
-  unfolding all_a
-  all_a_length seed_a = drawn_enough s.q (s.k * s.n) 4 s.t_bits (4 * (s.k * s.n)) (stream_mark s.digit 1 ++ seed_a) (omega arith) (omega arith)
-
   pub all_a_below : (seed_a : List ℕ) → Below s.q (all_a s seed_a)
   unfolding all_a
   all_a_below seed_a = drawn_below s.q (s.k * s.n) 4 s.t_bits (stream s 1 seed_a (4 * (4 * (s.k * s.n)))) g.t_once
 
-  pub a_of_length : (seed_a : List ℕ) (i : ℕ) → i < s.k → length (a_of s seed_a i) ≡ s.n
-  unfolding a_of
-  a_of_length seed_a i h =
-      part_length (s.n * i) s.n (all_a s seed_a) (row_within s.n s.k i (all_a s seed_a) (all_a_length seed_a) h)
-
   -- ---- y
-
-  pub y_of_length : (rand : List ℕ) (counter : ℕ) → length (y_of s rand counter) ≡ s.n
-  unfolding y_of
-  y_of_length rand counter =
-      length-map (drawn_y s rand counter) (less_of s.b)
-      ∙ drawn_enough (2 * s.b + 1) s.n 3 s.z_bits (2 * s.n) (stream_mark s.digit 2 ++ (rand ++ two_bytes counter)) (omega arith) (omega arith)
 
   -- past its end y reads 0
   pub y_of_size : (rand : List ℕ) (counter i : ℕ) → nat_abs (get_or (y_of s rand counter) i (pos 0)) ≤ s.b
@@ -103,11 +76,6 @@ module _ (s : Numbers) (g : Good s) where
       less_size s.b (drawn_y s rand counter) i (drawn_below (2 * s.b + 1) s.n 3 s.z_bits (stream s 2 (rand ++ two_bytes counter) (3 * (2 * s.n))) g.y_once)
 
   -- ---- c
-
-  pub enc_of_length : (c' : List ℕ) → length (enc_of s c') ≡ s.h
-  unfolding enc_of
-  enc_of_length c' =
-      positions_length s.n s.h [] (drawn_enc s c') (omega (arith, g.h_drawn, drawn_length s.position_bits (stream s 7 c' (3 * 256)), held_stream 3 256 (stream_mark s.digit 7 ++ c') (omega arith)))
 
   drawn_all_inside : (c' : List ℕ) → Below s.n (positions_of (drawn_enc s c'))
   drawn_all_inside c' =
@@ -126,20 +94,5 @@ module _ (s : Numbers) (g : Good s) where
   unfolding enc_of
   enc_of_distinct c' = positions_distinct s.n s.h [] (drawn_enc s c') (drawn_all_inside c') (omega (arith, g.h_inside))
 
-  -- as two lists
-  pub enc_terms : (c' : List ℕ) {ps : List ℕ} {ss : List ℤ} → AreDrawn (enc_of s c') ps ss → Terms s ps ss
-  enc_terms c' d =
-      rw (d.places_are, d.signs_are)
-      (record { signed = enc_of_signed c'; few = length-map (enc_of s c') (λ (t : Drawn). t.position) ∙ enc_of_length c' })
-
   pub enc_of_small : (c' : List ℕ) (i : ℕ) → nat_abs (polynomial_of (enc_of s c') i) ≤ 1
   enc_of_small c' = sparse_small s.n (positions_of (enc_of s c')) (signs_of (enc_of s c')) (enc_of_signed c') (enc_of_distinct c')
-
-  pub enc_of_total : (c' : List ℕ) → total s.n (λ i. nat_abs (polynomial_of (enc_of s c') i)) ≤ s.h
-  enc_of_total c' =
-      omega (
-        arith,
-        sparse_total s.n s.n (positions_of (enc_of s c')) (signs_of (enc_of s c')) (enc_of_signed c'),
-        length-map (enc_of s c') (λ (t : Drawn). t.position),
-        enc_of_length c',
-      )

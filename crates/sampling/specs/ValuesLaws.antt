@@ -5,11 +5,11 @@
 --     part_below                      each is below the range
 --     part_append                     a stretch in two parts
 --     values_part                     the values of all candidates are the part with none after it
---     values_length, values_below     as many as are needed, each below the range
+--     values_below                    each is below the range. That they are as many as are needed: proofs/DrawnLengths
 --     values_append                   the values of a stretch, then those of the candidates after it
 -- Assumes nothing.
 use Rattle.std.specs.Prelude.{◌≡◌, refl, Bool, true, false, cond, ◌||◌, List, [], ◌∷◌, ◌++◌, ℕ, zero, suc, ◌+◌, ◌-◌, ◌*◌, ◌≤◌, ◌<◌, ltb, length}
-use Rattle.std.proofs.Common.{sym, ap, ◌∙◌, zero-le, suc-le-suc, le_refl, le_antisymm, add-zero, add_assoc, arith, length-append, lt-ltb, le-ltb, ltb-true, ltb-false}
+use Rattle.std.proofs.Common.{sym, ap, ◌∙◌, zero-le, suc-le-suc, le_refl, add-zero, add_assoc, arith, length-append, lt-ltb, le-ltb, ltb-true, ltb-false}
 use Rattle.std.proofs.Math.Nat.{suc-sub-suc, sub-zero}
 use Rattle.whole.specs.Below.{Below}
 use Rattle.whole.specs.BelowLaws.{below_cons, below_tail, below_none}
@@ -126,10 +126,6 @@ values_part range (suc need) (c ∷ cs) =
         → emit t (reduced range c) (values range (cond t need (suc need)) cs) ≡ emit t (reduced range c) (part range (cond t need (suc need)) 0 cs)
     go ih true = ap (λ (vs : List ℕ). reduced range c ∷ vs) (ih need)
     go ih false = ih (suc need)
-
-pub values_length : (range need : ℕ) (cs : List ℕ) → need ≤ length cs → length (values range need cs) ≡ need
-values_length range need cs h =
-    rw (values_part range need cs) (le_antisymm (part_most range need 0 cs) (omega (arith, part_enough range need 0 cs (omega arith))))
 
 pub values_below : (range need : ℕ) (cs : List ℕ) → Below (2 * range) cs → Below range (values range need cs)
 values_below range need cs b = rw (values_part range need cs) (part_below range need 0 cs b)
