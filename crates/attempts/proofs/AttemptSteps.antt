@@ -13,7 +13,8 @@ use Rattle.sets.specs.declared.Numbers.{Numbers}
 use Rattle.sets.specs.SetI.{set_i}
 use Rattle.sampling.specs.Positions.{polynomial_of, AreDrawn}
 use Rattle.sampling.specs.Streams.{a_of, y_of, enc_of, challenge, highs_of}
-use Rattle.sampling.specs.StreamsLaws.{all_a_length, all_a_below, enc_terms, y_of_length}
+use Rattle.sampling.specs.StreamsLaws.{all_a_below}
+use Rattle.sampling.proofs.DrawnLengths.{all_a_length, enc_terms, y_of_length}
 use Rattle.records.specs.Layout.{polynomial, secret_bytes}
 use Rattle.sets.specs.Limits.{seed_bytes, digest_bytes}
 use Rattle.records.specs.Secret.{s_of, all_e, secret_seed_a, secret_g}

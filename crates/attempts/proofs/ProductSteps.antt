@@ -24,7 +24,8 @@ use Rattle.highs.specs.Highs.{Held, Adds}
 use Rattle.highs.specs.HighsLaws.{held_more}
 use Rattle.sets.specs.GoodLaws.{q_some}
 use Rattle.sampling.specs.Streams.{y_of, highs_of, high_parts}
-use Rattle.sampling.specs.StreamsLaws.{y_of_length, y_of_size}
+use Rattle.sampling.specs.StreamsLaws.{y_of_size}
+use Rattle.sampling.proofs.DrawnLengths.{y_of_length}
 use Rattle.sampling.specs.Residues.{Residues, residues_factors}
 use Rattle.records.specs.Layout.{polynomial}
 use Rattle.records.specs.PublicLaws.{polynomial_length, polynomial_below}

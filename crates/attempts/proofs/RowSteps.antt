@@ -11,7 +11,7 @@ use Rattle.sampling.specs.Asks.{NextA}
 use Rattle.sampling.specs.Promises.{StartedA, AfterA}
 use Rattle.sampling.specs.DrawALaws.{AtA, at_first, at_asks, at_written, at_next}
 use Rattle.sampling.specs.Streams.{all_a, a_of}
-use Rattle.sampling.specs.StreamsLaws.{all_a_length, a_of_length}
+use Rattle.sampling.proofs.DrawnLengths.{all_a_length, a_of_length}
 use Rattle.sets.specs.Limits.{seed_bytes}
 use Rattle.records.specs.Secret.{secret_seed_a}
 use Rattle.attempts.specs.Asks.{DrawsRow}

@@ -41,7 +41,7 @@ use Rattle.checking.specs.declared.hash.Walk.{Walk}
 use Rattle.checking.specs.Check.{public_g, work_tests}
 use Rattle.checking.specs.Asks.{ForT, ForEachT, ForHighs, ForResidues, ForResiduesIn, Tested, ForWork}
 use Rattle.checking.specs.Steps.{highs_upto, highs_of_record, Begun, OneMore, Walked, Judged}
-use Rattle.sampling.specs.StreamsLaws.{enc_terms}
+use Rattle.sampling.proofs.DrawnLengths.{enc_terms}
 use Rattle.checking.specs.StepsLaws.{walked_none, walked_asks, walked_more, hash_answered}
 
 -- ---- z

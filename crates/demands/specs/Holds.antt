@@ -29,7 +29,8 @@ use Rattle.sets.specs.Good.{Good}
 use Rattle.sets.specs.Limits.{message_limit, seed_bytes}
 use Rattle.sets.specs.GoodLaws.{q_some}
 use Rattle.sampling.specs.Positions.{polynomial_of}
-use Rattle.sampling.specs.StreamsLaws.{shake_length, enc_of_small, enc_of_total}
+use Rattle.sampling.specs.StreamsLaws.{shake_length, enc_of_small}
+use Rattle.sampling.proofs.DrawnLengths.{enc_of_total}
 use Rattle.sampling.specs.Streams.{a_of, y_of, enc_of, challenge, message_digest, key_digest, high_parts, highs_of}
 use Rattle.records.specs.Public.{t_of, seed_a_of, public_tests, read_public_tests}
 use Rattle.records.specs.Secret.{e_of}
