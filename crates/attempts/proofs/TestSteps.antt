@@ -16,7 +16,6 @@ use Rattle.whole.specs.Table.{table}
 use Rattle.whole.specs.TableLaws.{length_table, get_or_table, table_ext}
 use Rattle.whole.specs.Below.{Below}
 use Rattle.whole.specs.BelowLaws.{within_more, within_table}
-use Rattle.whole.specs.Twos.{signed}
 use Rattle.whole.specs.TwosLaws.{signed_size}
 use Rattle.whole.specs.Every.{every, each_below}
 use Rattle.whole.specs.EveryLaws.{not_first, each_below_none, each_below_more, each_below_fails, each_below_end}

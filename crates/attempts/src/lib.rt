@@ -1,4 +1,6 @@
 // One attempt of Algorithm 2.
+#![tactic(auto)]
+
 mod commit;
 mod respond;
 pub mod row;
