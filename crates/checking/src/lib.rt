@@ -1,4 +1,7 @@
 // Checking, Algorithm 3.
+
+#![tactic(auto)]
+
 mod hash;
 mod tests;
 mod work;
