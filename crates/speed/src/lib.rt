@@ -1,5 +1,7 @@
 // What the bench calls from C beside the face, in set I: the permutation, a_1..a_k of a seed, and one polynomial packed, unpacked and
 // multiplied. An array crosses as a pointer to its first element, a slice as that and its length.
+#![tactic(auto)]
+
 ghost use Rattle.std.specs.Prelude.{◌≡◌};
 ghost use Rattle.keccak.specs.Steps.{keccak_f};
 ghost use Rattle.packing.specs.Digits.{unpacked};
