@@ -1,4 +1,6 @@
 // Signing, Algorithm 2: the tests of its inputs, the search for the smallest counter that passes, and the entries for set I.
+#![tactic(auto)]
+
 mod inputs;
 mod search;
 

@@ -1,0 +1,11 @@
+-- `signing::sign_in` meets its contract. Assumes nothing.
+use borrow.Author.Rules.{rules}
+use Rattle.sets.specs.Known.{known_good}
+use Rattle.signing.proofs.SignSteps.{search_asked}
+use Rattle.signing.proofs.sign_in.Goals as goal
+
+pub test_inputs-tested-requires : goal.test_inputs-tested-requires
+test_inputs-tested-requires c = search (known_good, rules)
+
+pub sign_tested-requires-clause-searches_key : goal.sign_tested-requires-clause-searches_key
+sign_tested-requires-clause-searches_key c = search (search_asked, c.test_inputs-tested.ensures, known_good, rules)
