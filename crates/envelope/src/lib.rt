@@ -1,4 +1,7 @@
 // The envelope: a roster under its team number, with the signature record that signs both.
+
+#![tactic(auto)]
+
 pub mod head;
 mod parts;
 mod reading;
