@@ -1,5 +1,8 @@
 // The roster program. Standard input is a public record, then an envelope. It writes one line: REFUSED with the number, or the team
 // number and the roster's length of an envelope that is accepted.
+
+#![tactic(auto)]
+
 ghost use Rattle.std.specs.Prelude.{take};
 ghost use Rattle.answers.specs.Answers.{number_of};
 ghost use Rattle.roster.specs.Held.{Buffered, OpensWhole};
