@@ -26,6 +26,7 @@ first_failing (t ∷ ts) number e = step_first t ts number t.passes refl (first_
 -- and where a test is the first that fails, its number is answered
 pub failing_first : (ts : List Test) (number : ℕ) → FirstFailing ts number → answer ts ≡ number
 unfolding answer
+failing_first [] number f = elim f [ ]
 failing_first (t ∷ ts) number (here p) = rw p
 failing_first (t ∷ ts) number (later p f) = rw p (failing_first ts number f)
 
@@ -35,6 +36,7 @@ unfolding every
 not_answered ts number h e = go ts (suc number) h (first_failing ts number e)
   where
     go : (us : List Test) (m : ℕ) → every (λ (t : Test). cond (eqb t.number m) t.passes true) us ≡ true → FirstFailing us m → ⊥
+    go [] m k f = elim f [ ]
     go (t ∷ us) m k (here p) =
         true≢false (sym (rw (eq-eqb t.number t.number refl) at (both_first (cond (eqb t.number m) t.passes true) _ k)) ∙ p)
     go (t ∷ us) m k (later p f) = go us m (both_second (cond (eqb t.number m) t.passes true) _ k) f
@@ -75,5 +77,6 @@ rising_tail (up l r) = r
 
 -- where the numbers rise, the answer is the lowest number of a test that fails
 pub lowest : (ts : List Test) (number : ℕ) → Rising ts → FirstFailing ts number → AtLeast number ts
+lowest [] number r f = elim f [ ]
 lowest (t ∷ ts) number r (here p) = also (λ _. le_refl t.number) (above t.number t ts r (le_refl t.number))
 lowest (t ∷ ts) number r (later p f) = also (λ q. absurd (true≢false (sym p ∙ q))) (lowest ts number (rising_tail r) f)

@@ -11,11 +11,7 @@ use Rattle.shake.specs.declared.Sponge.{Sponge}
 use Rattle.shake.specs.Sponge.{blank, absorbed, squeezed}
 use Rattle.shake.specs.Whole.{shake}
 use Rattle.maesikkong.specs.Promises.{Shakes}
-use Rattle.maesikkong.proofs.streams.maesikkong_shake256.Statement.{statement}
-use Rattle.maesikkong.proofs.streams.maesikkong_shake256.Tie as tie
-
-bytes : (c : tie.After-shared-slice-known) → Below 256 c.before.args.message.now
-bytes c = below_bytes _ (λ i. (c.shared-slice-known.given i).fits)
+use Rattle.maesikkong.proofs.streams.maesikkong_shake256.Goals as goal
 
 shaken : {message old new : List ℕ} {s₀ s₁ : Sponge} → Below 256 message → s₀ ≡ blank → s₁ ≡ absorbed s₀ message → new ≡ squeezed (length old) s₁
     → Shakes message old new 0
@@ -25,7 +21,5 @@ shaken {message} {old} below e f g =
       out_is = g ∙ ap (squeezed (length old)) (f ∙ ap (λ (s : Sponge). absorbed s message) e) ∙ shake message (length old) below;
     }
 
-pub maesikkong_shake256_spec : {M : Type 1} → statement M
-maesikkong_shake256_spec =
-    tie.close
-    (tie.spec (λ c κs. search rules) (λ c κs. search rules) (λ c κs. search rules) (λ c. search rules) (λ c. search (shaken, bytes, rules)))
+pub returns : goal.returns
+returns c = search (shaken, below_bytes _ (λ i. (c.type_inv.message i).fits), rules)
