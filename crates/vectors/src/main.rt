@@ -3,6 +3,9 @@
 // in two bytes and as many bytes. For each case a line is written in hexadecimal. Numbers are in four bytes where nothing else is said, and
 // all have their low byte first. A hash is 32 bytes of SHAKE256. `sponge`, `streams` and `scheme` say what a piece holds, and what is
 // written.
+
+#![tactic(auto)]
+
 mod bytes;
 mod scheme;
 mod sponge;

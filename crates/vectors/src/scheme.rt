@@ -273,8 +273,9 @@ fn print_opened(opened: Opened, envelope: &[u8]) {
 
 fn read_envelope(envelope: &[u8]) {
     let opened = envelope::read(envelope);
+    let len = opened.len;
     print_opened(opened, envelope);
-    bytes::hash_all(envelope::signature(envelope, opened.len));
+    bytes::hash_all(envelope::signature(envelope, len));
 }
 
 fn open_envelope(public: &[u8], envelope: &[u8]) {

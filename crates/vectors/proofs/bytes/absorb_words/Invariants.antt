@@ -1,0 +1,9 @@
+-- `bytes::absorb_words` is safe and ends. Assumes nothing.
+use Prim.Native.Nat.{◌≤◌, ◌-◌}
+use Rattle.vectors.proofs.bytes.absorb_words.Given as goal
+
+abbrev pub invariant-loop-i : goal.invariant-loop-i
+invariant-loop-i l = l.i ≤ l.most
+
+abbrev pub decreases-loop-i : goal.decreases-loop-i
+decreases-loop-i l = l.most - l.i
