@@ -17,6 +17,22 @@ use Rattle.sets.proofs.SetI.fresh_challenge.Kinds as fresh_challenge_kinds
 use Rattle.sets.proofs.SetI.fresh_challenge.Reads as fresh_challenge
 use Rattle.sets.proofs.SetI.fresh_enc.Kinds as fresh_enc_kinds
 use Rattle.sets.proofs.SetI.fresh_enc.Reads as fresh_enc
+use Rattle.sets.proofs.SetIII.numbers.Kinds as iii_numbers_kinds
+use Rattle.sets.proofs.SetIII.numbers.Reads as iii_numbers
+use Rattle.sets.proofs.SetIII.fresh_a.Kinds as iii_fresh_a_kinds
+use Rattle.sets.proofs.SetIII.fresh_a.Reads as iii_fresh_a
+use Rattle.sets.proofs.SetIII.fresh_y.Kinds as iii_fresh_y_kinds
+use Rattle.sets.proofs.SetIII.fresh_y.Reads as iii_fresh_y
+use Rattle.sets.proofs.SetIII.fresh_rand.Kinds as iii_fresh_rand_kinds
+use Rattle.sets.proofs.SetIII.fresh_rand.Reads as iii_fresh_rand
+use Rattle.sets.proofs.SetIII.fresh_message.Kinds as iii_fresh_message_kinds
+use Rattle.sets.proofs.SetIII.fresh_message.Reads as iii_fresh_message
+use Rattle.sets.proofs.SetIII.fresh_key.Kinds as iii_fresh_key_kinds
+use Rattle.sets.proofs.SetIII.fresh_key.Reads as iii_fresh_key
+use Rattle.sets.proofs.SetIII.fresh_challenge.Kinds as iii_fresh_challenge_kinds
+use Rattle.sets.proofs.SetIII.fresh_challenge.Reads as iii_fresh_challenge
+use Rattle.sets.proofs.SetIII.fresh_enc.Kinds as iii_fresh_enc_kinds
+use Rattle.sets.proofs.SetIII.fresh_enc.Reads as iii_fresh_enc
 use Rattle.sets.proofs.Numbers.fresh_a.Kinds as any_a_kinds
 use Rattle.sets.proofs.Numbers.fresh_a.Reads as any_a
 use Rattle.sets.proofs.Numbers.fresh_y.Kinds as any_y_kinds
@@ -55,6 +71,30 @@ fresh_challenge_determined κs a x y e f p q = p ∙ sym q
 
 pub fresh_enc_determined : Result 0 fresh_enc_kinds.ps fresh_enc_kinds.r fresh_enc.Learnt
 fresh_enc_determined κs a x y e f p q = p ∙ sym q
+
+pub iii_numbers_determined : Result 0 iii_numbers_kinds.ps iii_numbers_kinds.r iii_numbers.Learnt
+iii_numbers_determined κs a x y e f p q = p ∙ sym q
+
+pub iii_fresh_a_determined : Result 0 iii_fresh_a_kinds.ps iii_fresh_a_kinds.r iii_fresh_a.Learnt
+iii_fresh_a_determined κs a x y e f p q = p ∙ sym q
+
+pub iii_fresh_y_determined : Result 0 iii_fresh_y_kinds.ps iii_fresh_y_kinds.r iii_fresh_y.Learnt
+iii_fresh_y_determined κs a x y e f p q = p ∙ sym q
+
+pub iii_fresh_rand_determined : Result 0 iii_fresh_rand_kinds.ps iii_fresh_rand_kinds.r iii_fresh_rand.Learnt
+iii_fresh_rand_determined κs a x y e f p q = p ∙ sym q
+
+pub iii_fresh_message_determined : Result 0 iii_fresh_message_kinds.ps iii_fresh_message_kinds.r iii_fresh_message.Learnt
+iii_fresh_message_determined κs a x y e f p q = p ∙ sym q
+
+pub iii_fresh_key_determined : Result 0 iii_fresh_key_kinds.ps iii_fresh_key_kinds.r iii_fresh_key.Learnt
+iii_fresh_key_determined κs a x y e f p q = p ∙ sym q
+
+pub iii_fresh_challenge_determined : Result 0 iii_fresh_challenge_kinds.ps iii_fresh_challenge_kinds.r iii_fresh_challenge.Learnt
+iii_fresh_challenge_determined κs a x y e f p q = p ∙ sym q
+
+pub iii_fresh_enc_determined : Result 0 iii_fresh_enc_kinds.ps iii_fresh_enc_kinds.r iii_fresh_enc.Learnt
+iii_fresh_enc_determined κs a x y e f p q = p ∙ sym q
 
 pub any_a_determined : Result 0 any_a_kinds.ps any_a_kinds.r any_a.Learnt
 any_a_determined κs a x y e f p q = p ∙ sym q

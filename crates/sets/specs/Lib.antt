@@ -3,4 +3,5 @@ pub mod GoodLaws
 pub mod Limits
 pub mod Marks
 pub mod SetI
+pub mod SetIII
 pub mod Known

@@ -1,9 +1,11 @@
-// The numbers of a set of parameters with its fresh sponges, the lengths and limits that no set changes, and set I, qTESLA-p-I.
+// The numbers of a set of parameters with its fresh sponges, the lengths and limits that no set changes, and the two sets: set I,
+// qTESLA-p-I, and set III, qTESLA-p-III. The entries work in set I; no entry takes set III yet.
 #![tactic(auto)]
 
 ghost use Rattle.std.specs.Prelude.{◌≡◌, ◌<◌};
 ghost use Rattle.sets.specs.Marks.{fresh};
 ghost use Rattle.sets.specs.SetI.{set_i};
+ghost use Rattle.sets.specs.SetIII.{set_iii};
 
 use shake::Sponge;
 
@@ -216,5 +218,106 @@ impl SetI {
         ensures { result ≡ fresh 1 7 }
     {
         SetI::numbers().fresh_enc()
+    }
+}
+
+// qTESLA-p-III.
+#[derive(Drop)]
+pub struct SetIII {}
+
+impl SetIII {
+    pub const N: usize = 2048;
+
+    pub const K: usize = 5;
+
+    pub const Q: u32 = 856145921;
+
+    pub const H: usize = 40;
+
+    pub const E: u32 = 901;
+
+    pub const S: u32 = 901;
+
+    pub const B: u32 = 2097151;
+
+    pub const D: u32 = 24;
+
+    pub const T_BITS: u32 = 30;
+
+    pub const Z_BITS: u32 = 22;
+
+    pub const POSITION_BITS: u32 = 11;
+
+    pub const DIGIT: u8 = 3;
+
+    // The numbers as one value.
+    pub fn numbers() -> Numbers
+        ensures { result ≡ set_iii }
+    {
+        Numbers {
+            n: SetIII::N,
+            k: SetIII::K,
+            q: SetIII::Q,
+            h: SetIII::H,
+            e: SetIII::E,
+            s: SetIII::S,
+            b: SetIII::B,
+            d: SetIII::D,
+            t_bits: SetIII::T_BITS,
+            z_bits: SetIII::Z_BITS,
+            position_bits: SetIII::POSITION_BITS,
+            digit: SetIII::DIGIT,
+        }
+    }
+
+    // The fresh sponge of each stream.
+
+    // a_1..a_k from seed_a
+    pub fn fresh_a() -> Sponge
+        ensures { result ≡ fresh 3 1 }
+    {
+        SetIII::numbers().fresh_a()
+    }
+
+    // y from rand and the counter
+    pub fn fresh_y() -> Sponge
+        ensures { result ≡ fresh 3 2 }
+    {
+        SetIII::numbers().fresh_y()
+    }
+
+    // rand
+    pub fn fresh_rand() -> Sponge
+        ensures { result ≡ fresh 3 3 }
+    {
+        SetIII::numbers().fresh_rand()
+    }
+
+    // G of the message
+    pub fn fresh_message() -> Sponge
+        ensures { result ≡ fresh 3 4 }
+    {
+        SetIII::numbers().fresh_message()
+    }
+
+    // g of the packed t_1..t_k
+    pub fn fresh_key() -> Sponge
+        ensures { result ≡ fresh 3 5 }
+    {
+        SetIII::numbers().fresh_key()
+    }
+
+    // c' of the high parts
+    pub fn fresh_challenge() -> Sponge
+        ensures { result ≡ fresh 3 6 }
+    {
+        SetIII::numbers().fresh_challenge()
+    }
+
+    // Enc of c'
+    pub fn fresh_enc() -> Sponge
+        ensures { result ≡ fresh 3 7 }
+    {
+        SetIII::numbers().fresh_enc()
     }
 }

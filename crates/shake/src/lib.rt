@@ -50,8 +50,8 @@ fn byte_at(lanes: &[u64; 25], p: usize) -> u8
 // The place after p. At the end of the block that is 0, and the lanes are permuted.
 fn pass(lanes: &mut [u64; 25], p: usize) -> usize
     requires { p < 136 }
-    ensures { (squeezing : Bool) → passed lanes.entry.now p squeezing
-        ≡ record { lanes = lanes.exit.now; place = result; squeezing = squeezing } }
+    ensures { (squeezing : Bool) → passed lanes.old p squeezing
+        ≡ record { lanes = lanes.new; place = result; squeezing = squeezing } }
 {
     if p + 1 == RATE {
         let next = keccak::permute(*lanes);
@@ -66,9 +66,9 @@ fn pass(lanes: &mut [u64; 25], p: usize) -> usize
 fn fill(lanes: &mut [u64; 25], p: usize, out: &mut [u8]) -> usize
     requires { p < 136 }
     ensures bytes { out.new
-        ≡ bytes_of (length out.old) (record { lanes = lanes.entry.now; place = p; squeezing = true }) }
-    ensures after { record { lanes = lanes.exit.now; place = result; squeezing = true }
-        ≡ state_after (length out.old) (record { lanes = lanes.entry.now; place = p; squeezing = true }) }
+        ≡ bytes_of (length out.old) (record { lanes = lanes.old; place = p; squeezing = true }) }
+    ensures after { record { lanes = lanes.new; place = result; squeezing = true }
+        ≡ state_after (length out.old) (record { lanes = lanes.old; place = p; squeezing = true }) }
 {
     let mut place = p;
     let mut k = 0;
