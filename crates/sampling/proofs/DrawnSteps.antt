@@ -1,8 +1,8 @@
 -- The steps of drawing from a sponge, a stretch at a time.
 --     filled              a buffer whose first bytes are squeezed
---     squeezing-..        a loop over stretches: what stands in the output and what is still to come are together all
---     gathering-..        the same for positions with signs
---     ..-asks             what the reader of a stretch is asked
+--     squeezing_..        a loop over stretches: what stands in the output and what is still to come are together all
+--     gathering_..        the same for positions with signs
+--     .._asks             what the reader of a stretch is asked
 -- Assumes nothing.
 use mathlib.Core.Path.{◌≡◌, refl, sym, ap, ◌∙◌}
 use mathlib.Core.List.{List, [], ◌++◌, map, append-nil, append_assoc}

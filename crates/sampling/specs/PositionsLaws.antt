@@ -1,6 +1,6 @@
 -- Laws of the candidate rule for positions with signs. `part_positions` is what is taken of one stretch of the candidates, where
 -- `later` ones follow it.
---     part_positions_fresh, -repeated, -moved     what becomes of one candidate
+--     part_positions_fresh, _repeated, _moved     what becomes of one candidate
 --     part_positions_append                       a stretch in two parts
 --     positions_part                              the positions of all candidates are the part with none after it
 --     positions_inside, positions_signs           each below n, with the sign of a candidate

@@ -1,7 +1,7 @@
 -- The steps of the sponge's functions, as laws over the lanes and the place that a loop has at hand:
 --     xor_at_is       the shifted byte that the code adds is the one that `xor_at` adds
---     passed-..       a byte is done with, at the block's end and elsewhere; the next place is in the block
---     absorbable-.., squeezable-..    what an absorb or a squeeze acts on, by cases; `ended_is`: the padding
+--     passed_..       a byte is done with, at the block's end and elsewhere; the next place is in the block
+--     absorbable_.., squeezable_..    what an absorb or a squeeze acts on, by cases; `ended_is`: the padding
 --     Absorbing       what is left to absorb comes to what was asked; a byte is one step of it
 --     Squeezing       what is still to come with what was written is what was asked; a byte is one step of it
 -- Assumes nothing.

@@ -1,8 +1,8 @@
 -- Absorbing and squeezing in pieces, from any state:
---     absorbed_absorbed   absorbing xs and then ys is absorbing xs ++ ys
---     squeezed_add        squeezing m + n bytes is squeezing m and then n
---     length_squeezed     n squeezed bytes are n
---     below_squeezed      each of them is below 256
+--     absorbed_absorbed       absorbing xs and then ys is absorbing xs ++ ys
+--     squeezed_add            squeezing m + n bytes is squeezing m and then n
+--     length_squeezed         n squeezed bytes are n
+--     below_squeezed          each of them is below 256
 --     absorb_pieces_lem       absorbing several pieces is absorbing their concatenation
 --     squeeze_pieces_lem      squeezing several pieces is squeezing as many bytes as they have together
 -- Assumes nothing.

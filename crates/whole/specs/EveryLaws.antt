@@ -1,7 +1,7 @@
 -- Laws of tests on every element.
 --     every_at, every_all           what `every` says of each place
 --     every_append, every_joined    lists in a row
---     eachBelow-..                  the same of p 0, .., p (k − 1)
+--     each_below_..                  the same of p 0, .., p (k − 1)
 --     Passing                       a loop that tests the elements from the front
 --     both, both_first, both_second, and_pass, not_first, not_second      && of two tests
 --     and_same, and_differs, same_first, same_rest      && of an equation and other tests

@@ -1,6 +1,6 @@
 -- A row of k polynomials of n coefficients that is written one polynomial after another.
 --     filling_none               before the first
---     filling_fits, -lent        the next has its place, of n coefficients
+--     filling_fits, _lent        the next has its place, of n coefficients
 --     filling_more               it is written there
 --     filling_length             the row's length stays
 --     filling_all                all k are written

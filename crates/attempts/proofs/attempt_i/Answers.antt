@@ -1,4 +1,4 @@
--- `attempts::attempt_i` meets its contract. Assumes nothing.
+-- The goals of `attempts::attempt_i` that want an answer by hand. Assumes nothing.
 use Rattle.sets.specs.Known.{known_i}
 use borrow.Author.Rules.{rules}
 use Rattle.attempts.proofs.attempt_i.Goals as goal

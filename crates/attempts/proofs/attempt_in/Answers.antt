@@ -1,4 +1,4 @@
--- `attempts::attempt_in` meets its contract. Assumes nothing.
+-- The goals of `attempts::attempt_in` that want an answer by hand. Assumes nothing.
 use Rattle.attempts.proofs.AttemptSteps.{attempt_commits, attempt_overflows, attempt_concludes, attempt_concluded}
 use borrow.Author.Rules.{rules}
 use Rattle.attempts.proofs.attempt_in.Goals as goal

@@ -1,4 +1,4 @@
--- `attempts::conclude` meets its contract. Assumes nothing.
+-- The goals of `attempts::conclude` that want an answer by hand. Assumes nothing.
 use Rattle.attempts.proofs.AttemptSteps.{concluded_writes, concluded_passes, concluded_fails}
 use borrow.Author.Rules.{rules}
 use Rattle.attempts.proofs.conclude.Goals as goal

@@ -1,4 +1,4 @@
--- `highs::add_highs_in` meets its contract. Assumes nothing.
+-- The goals of `highs::add_highs_in` that want an answer by hand. Assumes nothing.
 use borrow.Author.Rules.{rules}
 use Rattle.highs.proofs.Steps.{highs_added}
 use Rattle.highs.proofs.add_highs_in.Goals as goal

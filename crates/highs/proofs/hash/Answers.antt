@@ -1,4 +1,4 @@
--- `highs::hash` meets its contract. Assumes nothing.
+-- The goals of `highs::hash` that want an answer by hand. Assumes nothing.
 use borrow.Author.Rules.{rules}
 use Rattle.whole.specs.BelowLaws.{below_bytes}
 use Rattle.highs.proofs.Steps.{highs_hashed}

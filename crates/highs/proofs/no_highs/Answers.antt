@@ -1,4 +1,4 @@
--- `highs::no_highs` meets its contract. Assumes nothing.
+-- The goals of `highs::no_highs` that want an answer by hand. Assumes nothing.
 use borrow.Author.Rules.{rules}
 use Rattle.highs.proofs.Steps.{held_none}
 use Rattle.highs.proofs.no_highs.Goals as goal

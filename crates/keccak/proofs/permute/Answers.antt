@@ -1,5 +1,4 @@
--- `keccak::permute` meets its contract.
--- Assumes nothing.
+-- The goals of `keccak::permute` that want an answer by hand. Assumes nothing.
 use mathlib.Core.Path.{◌≡◌, refl, ap, ◌∙◌}
 use Prim.Native.Nat.{ℕ}
 use native.Mathlib.Omega.{arith}

@@ -1,5 +1,4 @@
--- `a` is the lanes after i rounds.
--- Assumes nothing.
+-- The loop of `keccak::permute`. `a` is the lanes after i rounds. Assumes nothing.
 use mathlib.Core.Path.{◌≡◌}
 use Prim.Native.Nat.{◌≤◌, ◌-◌}
 use Rattle.keccak.specs.Steps.{rounds}

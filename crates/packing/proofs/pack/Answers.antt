@@ -1,4 +1,4 @@
--- The goals of `pack` that want an answer by hand. Assumes nothing.
+-- The goals of `packing::pack` that want an answer by hand. Assumes nothing.
 use Prim.Native.Nat.{◌≤◌, ◌+◌, zero-le}
 use native.Mathlib.Omega.{arith}
 use Rattle.packing.proofs.Steps.{Packing, packing_none, packing_read, packing_write, packing_all}

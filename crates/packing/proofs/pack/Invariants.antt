@@ -1,6 +1,5 @@
--- `pack` meets its contract. The loop's invariant: the first k bytes are written, and the bits that wait with the values that were not
--- read are the rest of the number. The measure is the number of bytes left.
--- Assumes nothing.
+-- The loop of `packing::pack`. Its invariant: the first k bytes are written, and the bits that wait with the values that were not read are
+-- the rest of the number. The measure is the number of bytes left. Assumes nothing.
 use Prim.Native.Nat.{◌≤◌, ◌-◌}
 use lib.ListN.{length}
 use Rattle.packing.specs.Digits.{bytes_for}

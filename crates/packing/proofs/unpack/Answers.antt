@@ -1,4 +1,4 @@
--- The goals of `unpack` that want an answer by hand. Assumes nothing.
+-- The goals of `packing::unpack` that want an answer by hand. Assumes nothing.
 use borrow.Author.Rules.{rules}
 use Prim.Native.Nat.{◌<◌, ◌+◌}
 use native.Mathlib.Omega.{arith}

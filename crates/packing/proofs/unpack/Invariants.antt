@@ -1,6 +1,5 @@
--- `unpack` meets its contract. The loop's invariant: fewer than b bits wait, and with the bytes that were not read they are what is left
--- of the number; the values before `at` are stored. The measure is the number of bytes left.
--- Assumes nothing.
+-- The loop of `packing::unpack`. Its invariant: fewer than b bits wait, and with the bytes that were not read they are what is left of the
+-- number; the values before `at` are stored. The measure is the number of bytes left. Assumes nothing.
 use Prim.Native.Nat.{◌<◌, ◌-◌}
 use lib.ListN.{length}
 use Rattle.packing.proofs.Steps.{Unpacking}

@@ -1,3 +1,4 @@
+-- The goals of `ring::signed_byte` that want an answer by hand. Assumes nothing.
 use mathlib.Core.Path.{◌≡◌, ◌∙◌}
 use lib.IntN.{pos, ◌-ℤ◌}
 use mir.Syntax.{w32}

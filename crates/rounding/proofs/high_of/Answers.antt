@@ -1,4 +1,4 @@
--- `rounding::high_of` meets its contract. Assumes nothing.
+-- The goals of `rounding::high_of` that want an answer by hand. Assumes nothing.
 use borrow.Author.Rules.{rules}
 use Rattle.rounding.proofs.Laws.{high_of_low, high_of_high}
 use Rattle.rounding.proofs.high_of.Goals as goal

@@ -1,4 +1,4 @@
--- `rounding::low_magnitude` meets its contract. Assumes nothing.
+-- The goals of `rounding::low_magnitude` that want an answer by hand. Assumes nothing.
 use borrow.Author.Rules.{rules}
 use Rattle.rounding.proofs.Laws.{low_near, low_far}
 use Rattle.rounding.proofs.low_magnitude.Goals as goal

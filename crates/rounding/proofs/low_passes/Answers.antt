@@ -1,4 +1,4 @@
--- `rounding::low_passes` meets its contract. Assumes nothing.
+-- The goals of `rounding::low_passes` that want an answer by hand. Assumes nothing.
 use Rattle.rounding.proofs.Laws.{low_fits}
 use native.Mathlib.Omega.{arith}
 use Rattle.rounding.specs.Tests.{low_passes}

@@ -1,4 +1,4 @@
--- `rounding::magnitude` meets its contract. Assumes nothing.
+-- The goals of `rounding::magnitude` that want an answer by hand. Assumes nothing.
 use borrow.Author.Rules.{rules}
 use Rattle.whole.specs.Int.{abs_neg}
 use Rattle.rounding.proofs.Laws.{centred_low, centred_high}

@@ -1,4 +1,4 @@
--- `rounding::size_passes` meets its contract. Assumes nothing.
+-- The goals of `rounding::size_passes` that want an answer by hand. Assumes nothing.
 use Rattle.rounding.proofs.Laws.{size_fits}
 use native.Mathlib.Omega.{arith}
 use Rattle.rounding.specs.Tests.{size_passes}

@@ -1,5 +1,4 @@
--- `sampling::candidate` meets its contract. The loop's invariant: v is the number of the bytes from byte k on. The measure is k.
--- Assumes nothing.
+-- The loop of `sampling::candidate`. Its invariant: v is the number of the bytes from byte k on. The measure is k. Assumes nothing.
 use Rattle.sampling.proofs.CandidateSteps.{Reading}
 use Rattle.sampling.proofs.candidate.Given as goal
 

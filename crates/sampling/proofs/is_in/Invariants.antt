@@ -1,5 +1,5 @@
--- `sampling::is_in` meets its contract. The loop's invariant: p is among ps exactly if it is among those from i on. The measure is their number.
--- Assumes nothing.
+-- The loop of `sampling::is_in`. Its invariant: p is among ps exactly if it is among those from i on. The measure is their number. Assumes
+-- nothing.
 use Prim.Native.Nat.{◌-◌}
 use lib.ListN.{length}
 use Rattle.sampling.proofs.PositionSteps.{Looking}

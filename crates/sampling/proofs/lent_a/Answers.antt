@@ -1,4 +1,4 @@
--- `sampling::lent_a` meets its contract. Assumes nothing.
+-- The goals of `sampling::lent_a` that want an answer by hand. Assumes nothing.
 use borrow.Author.Rules.{rules}
 use Rattle.sampling.proofs.LentSteps.{takes_a_refused, takes_a_done}
 use Rattle.sampling.proofs.lent_a.Goals as goal

@@ -1,4 +1,4 @@
--- `sampling::lent_positions` meets its contract. Assumes nothing.
+-- The goals of `sampling::lent_positions` that want an answer by hand. Assumes nothing.
 use borrow.Author.Rules.{rules}
 use Rattle.sampling.proofs.LentSteps.{positions_unpaired, positions_few, positions_many, positions_done}
 use Rattle.sampling.proofs.lent_positions.Goals as goal

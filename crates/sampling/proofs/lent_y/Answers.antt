@@ -1,4 +1,4 @@
--- `sampling::lent_y` meets its contract. Assumes nothing.
+-- The goals of `sampling::lent_y` that want an answer by hand. Assumes nothing.
 use borrow.Author.Rules.{rules}
 use Rattle.sampling.proofs.LentSteps.{takes_y_refused, takes_y_done}
 use Rattle.sampling.proofs.lent_y.Goals as goal

@@ -1,6 +1,5 @@
--- `sampling::less_stretch` meets its contract. The loop's invariant: what is taken of the first j candidates is stored. The measure is
--- the number of candidates left.
--- Assumes nothing.
+-- The loop of `sampling::less_stretch`. Its invariant: what is taken of the first j candidates is stored. The measure is the number of
+-- candidates left. Assumes nothing.
 use Prim.Native.Nat.{◌+◌, ◌*◌, ◌-◌}
 use mathlib.Core.List.{map}
 use lib.ListN.{length}

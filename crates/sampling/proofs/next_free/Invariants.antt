@@ -1,6 +1,5 @@
--- `sampling::next_free` meets its contract. The loop's invariant: the next free position from `at` on, with the steps left, is the one from
--- p on. The measure is the number of steps left.
--- Assumes nothing.
+-- The loop of `sampling::next_free`. Its invariant: the next free position from `at` on, with the steps left, is the one from p on. The
+-- measure is the number of steps left. Assumes nothing.
 use Rattle.sampling.proofs.PositionSteps.{Freeing}
 use Rattle.sampling.proofs.next_free.Given as goal
 

@@ -1,6 +1,5 @@
--- `sampling::positions_stretch` meets its contract. The loop's invariant: what is taken of the first j candidates is stored. The measure is
--- the number of candidates left.
--- Assumes nothing.
+-- The loop of `sampling::positions_stretch`. Its invariant: what is taken of the first j candidates is stored. The measure is the number of
+-- candidates left. Assumes nothing.
 use Prim.Native.Nat.{◌-◌}
 use Rattle.sampling.proofs.PositionSteps.{Drawing}
 use Rattle.sampling.proofs.positions_stretch.Given as goal

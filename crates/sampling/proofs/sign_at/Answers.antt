@@ -1,4 +1,4 @@
--- `sampling::sign_at` meets its contract. Assumes nothing.
+-- The goals of `sampling::sign_at` that want an answer by hand. Assumes nothing.
 use Rattle.whole.specs.BelowLaws.{below_bytes}
 use Rattle.sampling.proofs.PositionSteps.{sign_set, sign_clear}
 use borrow.Author.Rules.{rules}

@@ -1,4 +1,4 @@
--- `sampling::take_less` meets its contract. Assumes nothing.
+-- The goals of `sampling::take_less` that want an answer by hand. Assumes nothing.
 use borrow.Author.Rules.{rules}
 use Rattle.sampling.specs.Stored.{stored_none}
 use Rattle.sampling.proofs.ValueSteps.{one_skip, less_in, less_last}

@@ -1,4 +1,4 @@
--- `sampling::take_position` meets its contract. Assumes nothing.
+-- The goals of `sampling::take_position` that want an answer by hand. Assumes nothing.
 use borrow.Author.Rules.{rules}
 use Rattle.sampling.proofs.PositionSteps.{free_fits, position_fresh, position_moved, position_passed}
 use Rattle.sampling.proofs.take_position.Goals as goal

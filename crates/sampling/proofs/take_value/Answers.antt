@@ -1,4 +1,4 @@
--- `sampling::take_value` meets its contract. Assumes nothing.
+-- The goals of `sampling::take_value` that want an answer by hand. Assumes nothing.
 use borrow.Author.Rules.{rules}
 use Rattle.sampling.specs.Stored.{stored_none, stored_one}
 use Rattle.sampling.proofs.ValueSteps.{one_in, one_last, one_skip}

@@ -1,6 +1,5 @@
--- `sampling::values_stretch` meets its contract. The loop's invariant: what is taken of the first j candidates is stored. The measure is
--- the number of candidates left.
--- Assumes nothing.
+-- The loop of `sampling::values_stretch`. Its invariant: what is taken of the first j candidates is stored. The measure is the number of
+-- candidates left. Assumes nothing.
 use Prim.Native.Nat.{ℕ, ◌-◌}
 use mathlib.Core.List.{List}
 use Rattle.sampling.proofs.ValueSteps.{Taking}

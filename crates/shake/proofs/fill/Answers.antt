@@ -1,5 +1,4 @@
--- `fill` meets its contract.
--- Assumes nothing.
+-- The goals of `shake::fill` that want an answer by hand. Assumes nothing.
 use borrow.Author.Rules.{rules}
 use native.Mathlib.Omega.{arith}
 use Rattle.shake.proofs.Steps.{squeezing_none, squeezing_byte, squeezing_all}

@@ -1,5 +1,5 @@
--- The first k bytes stand in the slice, and the lanes with the place give the others. The measure is the number of bytes left.
--- Assumes nothing.
+-- The loop of `shake::fill`. The first k bytes stand in the slice, and the lanes with the place give the others. The measure is the number
+-- of bytes left. Assumes nothing.
 use mathlib.Core.Bool.{true}
 use Prim.Native.Nat.{◌-◌}
 use lib.ListN.{length}

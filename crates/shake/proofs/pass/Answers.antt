@@ -1,5 +1,4 @@
--- `pass` meets its contract: its cases are the definition's.
--- Assumes nothing.
+-- `pass` meets its contract: its cases are the definition's. Assumes nothing.
 use native.Mathlib.Omega.{arith}
 use Rattle.shake.proofs.Steps.{passed_last, passed_other}
 use Rattle.shake.proofs.pass.Goals as goal

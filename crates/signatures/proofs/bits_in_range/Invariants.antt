@@ -1,5 +1,5 @@
--- `signatures::bits_in_range` meets its contract. The loop's invariant: what the first k values stand for is from −bound to bound. The
--- measure is the number of those left. Assumes nothing.
+-- The loop of `signatures::bits_in_range`. Its invariant: what the first k values stand for is from −bound to bound. The measure is the
+-- number of those left. Assumes nothing.
 use Prim.Native.Nat.{◌-◌}
 use lib.ListN.{length}
 use Rattle.signatures.proofs.Sizes.{RangingBits}

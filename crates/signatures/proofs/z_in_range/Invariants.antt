@@ -1,5 +1,5 @@
--- `signatures::z_in_range` meets its contract. The loop's invariant: the first k are from −bound to bound. The measure is the number of
--- those left. Assumes nothing.
+-- The loop of `signatures::z_in_range`. Its invariant: the first k are from −bound to bound. The measure is the number of those left.
+-- Assumes nothing.
 use Prim.Native.Nat.{◌-◌}
 use lib.ListN.{length}
 use Rattle.signatures.proofs.Sizes.{Ranging}

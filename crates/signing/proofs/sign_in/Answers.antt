@@ -1,4 +1,4 @@
--- `signing::sign_in` meets its contract. Assumes nothing.
+-- The goals of `signing::sign_in` that want an answer by hand. Assumes nothing.
 use borrow.Author.Rules.{rules}
 use Rattle.sets.specs.Known.{known_good}
 use Rattle.signing.proofs.SignSteps.{search_asked}

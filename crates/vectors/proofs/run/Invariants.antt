@@ -1,4 +1,4 @@
--- `run` is safe and ends. The memory keeps its length. Assumes nothing.
+-- The loop of `vectors::run`. The memory keeps its length. Assumes nothing.
 use mathlib.Core.Path.{◌≡◌}
 use Prim.Native.Nat.{◌≤◌, ◌-◌}
 use lib.ListN.{length}

@@ -1,4 +1,4 @@
--- `attempts::commit::absorb_highs` meets its contract. Assumes nothing.
+-- The goals of `attempts::commit::absorb_highs` that want an answer by hand. Assumes nothing.
 use Rattle.sets.specs.Known.{known_good}
 use Rattle.attempts.proofs.ProductSteps.{absorbing_none, absorbing_more, absorbing_all}
 use borrow.Author.Rules.{rules}

@@ -1,4 +1,5 @@
--- `attempts::commit::absorb_highs` meets its contract. The loop's invariant: the high parts of v_1..v_i are absorbed. The measure is the number of those left. Assumes nothing.
+-- The loop of `attempts::commit::absorb_highs`. Its invariant: the high parts of v_1..v_i are absorbed. The measure is the number of those
+-- left. Assumes nothing.
 use Prim.Native.Nat.{◌-◌}
 use Rattle.attempts.proofs.ProductSteps.{Absorbing}
 use Rattle.attempts.proofs.commit.absorb_highs.Given as goal

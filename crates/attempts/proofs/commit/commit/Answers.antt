@@ -1,4 +1,4 @@
--- `attempts::commit::commit` meets its contract. Assumes nothing.
+-- The goals of `attempts::commit::commit` that want an answer by hand. Assumes nothing.
 use Rattle.attempts.proofs.ProductSteps.{commit_small, commit_multiplies, commit_absorbs, commit_made}
 use borrow.Author.Rules.{rules}
 use Rattle.attempts.proofs.commit.commit.Goals as goal

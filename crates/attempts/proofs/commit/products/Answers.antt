@@ -1,4 +1,4 @@
--- `attempts::commit::products` meets its contract. Assumes nothing.
+-- The goals of `attempts::commit::products` that want an answer by hand. Assumes nothing.
 use Rattle.attempts.proofs.ProductSteps.{multiplying_none, multiplying_more, multiplying_all}
 use borrow.Author.Rules.{rules}
 use Rattle.attempts.proofs.commit.products.Goals as goal

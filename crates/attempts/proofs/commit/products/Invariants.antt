@@ -1,4 +1,4 @@
--- `attempts::commit::products` meets its contract. The loop's invariant: v_1..v_i are made. The measure is the number of those left. Assumes nothing.
+-- The loop of `attempts::commit::products`. Its invariant: v_1..v_i are made. The measure is the number of those left. Assumes nothing.
 use Prim.Native.Nat.{◌-◌}
 use Rattle.attempts.proofs.ProductSteps.{Multiplying}
 use Rattle.attempts.proofs.commit.products.Given as goal

@@ -1,4 +1,4 @@
--- `attempts::respond::make_z` meets its contract. Assumes nothing.
+-- The goals of `attempts::respond::make_z` that want an answer by hand. Assumes nothing.
 use Rattle.attempts.proofs.TestSteps.{z_summands, z_is}
 use Rattle.attempts.proofs.respond.make_z.Goals as goal
 

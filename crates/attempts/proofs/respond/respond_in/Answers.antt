@@ -1,4 +1,4 @@
--- `attempts::respond::respond_in` meets its contract. Assumes nothing.
+-- The goals of `attempts::respond::respond_in` that want an answer by hand. Assumes nothing.
 use Rattle.attempts.proofs.AttemptSteps.{respond_makes, respond_outside, respond_inside, respond_tests}
 use borrow.Author.Rules.{rules}
 use Rattle.attempts.proofs.respond.respond_in.Goals as goal

@@ -1,4 +1,4 @@
--- `attempts::respond::w_test` meets its contract. Assumes nothing.
+-- The goals of `attempts::respond::w_test` that want an answer by hand. Assumes nothing.
 use Rattle.attempts.proofs.TestSteps.{w_small, w_low, w_sized, w_both, w_fails}
 use Rattle.attempts.proofs.respond.w_test.Goals as goal
 

@@ -1,4 +1,4 @@
--- `attempts::respond::w_tests` meets its contract. Assumes nothing.
+-- The goals of `attempts::respond::w_tests` that want an answer by hand. Assumes nothing.
 use Rattle.attempts.proofs.TestSteps.{testing_none, testing_fails, testing_more}
 use borrow.Author.Rules.{rules}
 use Rattle.attempts.proofs.respond.w_tests.Goals as goal

@@ -1,5 +1,5 @@
--- `attempts::respond::w_tests` meets its contract. The loop's invariant: w_1..w_i pass, and v_(i + 1)..v_k are as they were. The
--- measure is the number of those left. Assumes nothing.
+-- The loop of `attempts::respond::w_tests`. Its invariant: w_1..w_i pass, and v_(i + 1)..v_k are as they were. The measure is the number of
+-- those left. Assumes nothing.
 use Prim.Native.Nat.{◌-◌}
 use Rattle.attempts.proofs.TestSteps.{Testing}
 use Rattle.attempts.proofs.respond.w_tests.Given as goal

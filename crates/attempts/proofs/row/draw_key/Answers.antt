@@ -1,4 +1,4 @@
--- `attempts::row::draw_key` meets its contract. Assumes nothing.
+-- The goals of `attempts::row::draw_key` that want an answer by hand. Assumes nothing.
 use Rattle.attempts.proofs.RowSteps.{key_row}
 use borrow.Author.Rules.{rules}
 use Rattle.attempts.proofs.row.draw_key.Goals as goal

@@ -1,4 +1,4 @@
--- `attempts::row::draw_row` meets its contract. Assumes nothing.
+-- The goals of `attempts::row::draw_row` that want an answer by hand. Assumes nothing.
 use Rattle.attempts.proofs.RowSteps.{drawing_none, drawing_more, drawing_all}
 use borrow.Author.Rules.{rules}
 use Rattle.attempts.proofs.row.draw_row.Goals as goal

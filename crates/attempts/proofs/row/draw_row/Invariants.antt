@@ -1,4 +1,4 @@
--- `attempts::row::draw_row` meets its contract. The loop's invariant: a_1..a_i are drawn. The measure is the number of those left. Assumes nothing.
+-- The loop of `attempts::row::draw_row`. Its invariant: a_1..a_i are drawn. The measure is the number of those left. Assumes nothing.
 use Prim.Native.Nat.{◌-◌}
 use Rattle.attempts.proofs.RowSteps.{Drawing}
 use Rattle.attempts.proofs.row.draw_row.Given as goal

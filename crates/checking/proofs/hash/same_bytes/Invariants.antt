@@ -1,5 +1,5 @@
--- `checking::hash::same_bytes` meets its contract. The loop's invariant: what is left to compare decides. The
--- measure is the number of bytes left. Assumes nothing.
+-- The loop of `checking::hash::same_bytes`. Its invariant: what is left to compare decides. The measure is the number of bytes left.
+-- Assumes nothing.
 use Prim.Native.Nat.{◌-◌}
 use lib.ListN.{length}
 use Rattle.checking.proofs.Same.{Comparing}

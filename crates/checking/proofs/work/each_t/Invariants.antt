@@ -1,5 +1,5 @@
--- `checking::work::each_t` meets its contract. The loop's invariant: the high parts of w_1..w_i are held, and t has
--- its length. The measure is the number of t_i left. Assumes nothing.
+-- The loop of `checking::work::each_t`. Its invariant: the high parts of w_1..w_i are held, and t has its length. The measure is the number
+-- of t_i left. Assumes nothing.
 use Prim.Native.Nat.{◌-◌}
 use Rattle.checking.proofs.WorkSteps.{Turn}
 use Rattle.checking.proofs.work.each_t.Given as goal

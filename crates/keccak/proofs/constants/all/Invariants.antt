@@ -1,5 +1,5 @@
--- The constants of the rounds before i are there, and the register is that of round i.
--- Assumes nothing.
+-- The loop of `keccak::constants::all`. The constants of the rounds before i are there, and the register is that of round i. Assumes
+-- nothing.
 use mathlib.Core.Path.{◌≡◌}
 use Prim.Native.Nat.{◌-◌, ◌*◌, ◌%◌}
 use Rattle.keccak.specs.Constants.{register}

@@ -1,5 +1,4 @@
--- `keccak::constants::of_round` meets its contract.
--- Assumes nothing.
+-- The goals of `keccak::constants::of_round` that want an answer by hand. Assumes nothing.
 use native.Mathlib.Omega.{arith}
 use Rattle.keccak.proofs.Register.{small_place, turning_more, turning_ends}
 use Rattle.keccak.proofs.constants.of_round.Goals as goal

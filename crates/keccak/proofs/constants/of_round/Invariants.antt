@@ -1,5 +1,4 @@
--- j turns of the round are made, and the constant has its first j bits.
--- Assumes nothing.
+-- The loop of `keccak::constants::of_round`. j turns of the round are made, and the constant has its first j bits. Assumes nothing.
 use Prim.Native.Nat.{◌-◌}
 use Rattle.keccak.proofs.Register.{Turning}
 use Rattle.keccak.proofs.constants.of_round.Given as goal

@@ -1,5 +1,4 @@
--- The loop of `keys::public::put_t`: t_1..t_i stand packed in their stretches, and the rest of the record is as it was.
--- Assumes nothing.
+-- The loop of `keys::public::put_t`: t_1..t_i stand packed in their stretches, and the rest of the record is as it was. Assumes nothing.
 use Prim.Native.Nat.{◌-◌}
 use Rattle.keys.proofs.PutSteps.{Turn}
 use Rattle.keys.proofs.public.put_t.Given as goal

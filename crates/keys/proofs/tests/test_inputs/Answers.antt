@@ -1,4 +1,4 @@
--- `keys::tests::test_inputs` meets its contract. Assumes nothing.
+-- The goals of `keys::tests::test_inputs` that want an answer by hand. Assumes nothing.
 use borrow.Author.Rules.{rules}
 use Rattle.answers.specs.TestLaws.{tests}
 use Rattle.keys.specs.Key.{make_key_tests}

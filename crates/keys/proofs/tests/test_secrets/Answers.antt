@@ -1,4 +1,4 @@
--- `keys::tests::test_secrets` meets its contract. Assumes nothing.
+-- The goals of `keys::tests::test_secrets` that want an answer by hand. Assumes nothing.
 use borrow.Author.Rules.{rules}
 use Rattle.answers.specs.TestLaws.{tests}
 use Rattle.records.specs.Secret.{byte_tests}

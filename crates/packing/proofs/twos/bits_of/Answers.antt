@@ -1,5 +1,4 @@
--- `bits_of` meets its contract: the sum 2^b + z is taken in an i64, and is below 2^b.
--- Assumes nothing.
+-- `bits_of` meets its contract: the sum 2^b + z is taken in an i64, and is below 2^b. Assumes nothing.
 use mathlib.Core.Path.{ap, ◌∙◌}
 use lib.IntN.{nat_abs}
 use mir.Facts.{to_z-of_z}

@@ -1,4 +1,4 @@
--- The goals of `from_bits` that want an answer by hand. Assumes nothing.
+-- The goals of `packing::twos::from_bits` that want an answer by hand. Assumes nothing.
 use borrow.Author.Rules.{rules}
 use Rattle.whole.specs.Fill.{wrote_none, wrote_more, wrote_map}
 use Rattle.whole.specs.Twos.{signed}

@@ -1,5 +1,5 @@
--- `from_bits` meets its contract. The loop's invariant: what the first k values stand for is written. The measure is the number of those left.
--- Assumes nothing.
+-- The loop of `packing::twos::from_bits`. Its invariant: what the first k values stand for is written. The measure is the number of those
+-- left. Assumes nothing.
 use Prim.Native.Nat.{◌-◌}
 use lib.ListN.{length, get_or}
 use Rattle.whole.specs.Fill.{Wrote}

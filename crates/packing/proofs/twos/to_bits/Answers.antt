@@ -1,4 +1,4 @@
--- The goals of `to_bits` that want an answer by hand. Assumes nothing.
+-- The goals of `packing::twos::to_bits` that want an answer by hand. Assumes nothing.
 use borrow.Author.Rules.{rules}
 use lib.IntN.{pos}
 use Rattle.whole.specs.Fill.{wrote_none, wrote_map}

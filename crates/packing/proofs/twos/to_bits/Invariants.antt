@@ -1,5 +1,5 @@
--- `to_bits` meets its contract. The loop's invariant: the bits of the first k numbers are written. The measure is the number of those left.
--- Assumes nothing.
+-- The loop of `packing::twos::to_bits`. Its invariant: the bits of the first k numbers are written. The measure is the number of those
+-- left. Assumes nothing.
 use Prim.Native.Nat.{◌-◌}
 use lib.ListN.{length, get_or}
 use lib.IntN.{pos}

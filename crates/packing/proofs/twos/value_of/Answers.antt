@@ -1,5 +1,4 @@
--- `value_of` meets its contract: the difference x − 2^b is taken in an i64, and is in the range of b bits.
--- Assumes nothing.
+-- `value_of` meets its contract: the difference x − 2^b is taken in an i64, and is in the range of b bits. Assumes nothing.
 use Rattle.packing.proofs.Signs.{lowered_reads, positive}
 use Rattle.packing.proofs.twos.value_of.Goals as goal
 

@@ -1,4 +1,4 @@
--- `records::pieces::copy_in` meets its contract. The loop's invariant: the first i bytes are copied. Assumes nothing.
+-- The loop of `records::pieces::copy_in`. Its invariant: the first i bytes are copied. Assumes nothing.
 use Prim.Native.Nat.{◌-◌, ◌≤◌}
 use lib.ListN.{length, get_or}
 use Rattle.whole.specs.Fill.{Wrote}

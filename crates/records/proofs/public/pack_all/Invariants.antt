@@ -1,4 +1,4 @@
--- `records::public::pack_all` meets its contract. The loop's invariant: packed t_1..t_i stand in the record. Assumes nothing.
+-- The loop of `records::public::pack_all`. Its invariant: packed t_1..t_i stand in the record. Assumes nothing.
 use Prim.Native.Nat.{◌-◌}
 use Rattle.records.proofs.PublicSteps.{WritingT}
 use Rattle.records.proofs.public.pack_all.Given as goal

@@ -1,4 +1,4 @@
--- `records::public::t_in_range` meets its contract. The loop's invariant: the coefficients before i are in range. Assumes nothing.
+-- The loop of `records::public::t_in_range`. Its invariant: the coefficients before i are in range. Assumes nothing.
 use Prim.Native.Nat.{◌-◌}
 use lib.ListN.{length}
 use Rattle.records.proofs.PublicSteps.{Testing}

@@ -1,4 +1,4 @@
--- `records::public::t_passes_in` meets its contract. The loop's invariant: t_1..t_i are in range. Assumes nothing.
+-- The loop of `records::public::t_passes_in`. Its invariant: t_1..t_i are in range. Assumes nothing.
 use Prim.Native.Nat.{◌-◌}
 use Rattle.records.proofs.PublicSteps.{Ranging}
 use Rattle.records.proofs.public.t_passes_in.Given as goal

@@ -1,4 +1,4 @@
--- `records::public::take_out` meets its contract. Assumes nothing.
+-- The goals of `records::public::take_out` that want an answer by hand. Assumes nothing.
 use borrow.Author.Rules.{rules}
 use Rattle.records.proofs.PublicSteps.{read_seed}
 use Rattle.records.proofs.public.take_out.Goals as goal

@@ -1,4 +1,4 @@
--- `records::public::test_public` meets its contract. Assumes nothing.
+-- The goals of `records::public::test_public` that want an answer by hand. Assumes nothing.
 use borrow.Author.Rules.{rules}
 use Rattle.answers.specs.TestLaws.{tests}
 use Rattle.sets.specs.Known.{known_good}

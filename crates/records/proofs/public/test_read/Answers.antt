@@ -1,4 +1,4 @@
--- `records::public::test_read` meets its contract. Assumes nothing.
+-- The goals of `records::public::test_read` that want an answer by hand. Assumes nothing.
 use borrow.Author.Rules.{rules}
 use Rattle.answers.specs.TestLaws.{tests}
 use Rattle.records.specs.Public.{read_public_tests}

@@ -1,4 +1,4 @@
--- `records::public::test_write` meets its contract. Assumes nothing.
+-- The goals of `records::public::test_write` that want an answer by hand. Assumes nothing.
 use borrow.Author.Rules.{rules}
 use Rattle.answers.specs.TestLaws.{tests}
 use Rattle.records.specs.Public.{write_public_tests}

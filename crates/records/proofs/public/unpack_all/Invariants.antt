@@ -1,4 +1,4 @@
--- `records::public::unpack_all` meets its contract. The loop's invariant: t_1..t_i stand in t. Assumes nothing.
+-- The loop of `records::public::unpack_all`. Its invariant: t_1..t_i stand in t. Assumes nothing.
 use Prim.Native.Nat.{◌-◌}
 use Rattle.records.proofs.PublicSteps.{ReadingT}
 use Rattle.records.proofs.public.unpack_all.Given as goal

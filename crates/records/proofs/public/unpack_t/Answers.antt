@@ -1,4 +1,4 @@
--- `records::public::unpack_t` meets its contract. Assumes nothing.
+-- The goals of `records::public::unpack_t` that want an answer by hand. Assumes nothing.
 use Rattle.records.proofs.PublicSteps.{read_is}
 use borrow.Author.Rules.{rules}
 use Rattle.records.proofs.public.unpack_t.Goals as goal

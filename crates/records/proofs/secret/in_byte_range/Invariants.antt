@@ -1,4 +1,4 @@
--- `records::secret::in_byte_range` meets its contract. The loop's invariant: no byte before i is −128. Assumes nothing.
+-- The loop of `records::secret::in_byte_range`. Its invariant: no byte before i is −128. Assumes nothing.
 use Prim.Native.Nat.{◌-◌}
 use lib.ListN.{length}
 use Rattle.records.proofs.SecretSteps.{Testing}

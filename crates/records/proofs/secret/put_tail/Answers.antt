@@ -1,4 +1,4 @@
--- `records::secret::put_tail` meets its contract. Assumes nothing.
+-- The goals of `records::secret::put_tail` that want an answer by hand. Assumes nothing.
 use Rattle.records.proofs.SecretSteps.{put_tail_is}
 use borrow.Author.Rules.{rules}
 use Rattle.records.proofs.secret.put_tail.Goals as goal

@@ -1,4 +1,4 @@
--- `records::secret::read` meets its contract. Assumes nothing.
+-- The goals of `records::secret::read` that want an answer by hand. Assumes nothing.
 use borrow.Author.Rules.{rules}
 use Rattle.answers.specs.OutputLaws.{made_done, kept_refused}
 use Rattle.records.proofs.SecretSteps.{read_takes}

@@ -1,4 +1,4 @@
--- `records::secret::take_out` meets its contract. Assumes nothing.
+-- The goals of `records::secret::take_out` that want an answer by hand. Assumes nothing.
 use borrow.Author.Rules.{rules}
 use Rattle.records.proofs.SecretSteps.{take_s, take_e}
 use Rattle.records.proofs.secret.take_out.Goals as goal

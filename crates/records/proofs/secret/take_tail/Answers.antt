@@ -1,4 +1,4 @@
--- `records::secret::take_tail` meets its contract. Assumes nothing.
+-- The goals of `records::secret::take_tail` that want an answer by hand. Assumes nothing.
 use borrow.Author.Rules.{rules}
 use Rattle.records.proofs.SecretSteps.{take_seed_a, take_seed_y, take_g}
 use Rattle.records.proofs.secret.take_tail.Goals as goal

@@ -1,4 +1,4 @@
--- `records::secret::test_read` meets its contract. Assumes nothing.
+-- The goals of `records::secret::test_read` that want an answer by hand. Assumes nothing.
 use borrow.Author.Rules.{rules}
 use Rattle.answers.specs.TestLaws.{tests}
 use Rattle.records.specs.Secret.{read_secret_tests}

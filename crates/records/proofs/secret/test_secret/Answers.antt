@@ -1,4 +1,4 @@
--- `records::secret::test_secret` meets its contract. Assumes nothing.
+-- The goals of `records::secret::test_secret` that want an answer by hand. Assumes nothing.
 use borrow.Author.Rules.{rules}
 use Rattle.answers.specs.TestLaws.{tests}
 use Rattle.records.specs.Secret.{secret_tests}

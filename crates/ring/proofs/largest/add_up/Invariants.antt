@@ -1,4 +1,4 @@
--- The loop has summed the first i places.
+-- The loop of `ring::largest::add_up`. It has summed the first i places. Assumes nothing.
 use Prim.Native.Nat.{◌-◌}
 use lib.ListN.{length}
 use Rattle.ring.proofs.Places.{Adding}

@@ -1,3 +1,4 @@
+-- The goals of `ring::largest::clear` that want an answer by hand. Assumes nothing.
 use borrow.Author.Rules.{rules}
 use mathlib.Core.Path.{◌∙◌}
 use native.Mathlib.Omega.{arith}

@@ -1,4 +1,4 @@
--- The loop has written 0 at the first i places.
+-- The loop of `ring::largest::clear`. It has written 0 at the first i places. Assumes nothing.
 use Prim.Native.Nat.{◌-◌}
 use lib.ListN.{length}
 use Rattle.whole.specs.Fill.{Wrote}

@@ -1,3 +1,4 @@
+-- The goals of `ring::largest::largest_sum` that want an answer by hand. Assumes nothing.
 use Rattle.whole.specs.BelowLaws.{below_bytes}
 use Rattle.ring.proofs.Places.{addable}
 use Rattle.ring.proofs.largest.largest_sum.Goals as goal

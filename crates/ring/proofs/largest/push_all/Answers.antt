@@ -1,3 +1,4 @@
+-- The goals of `ring::largest::push_all` that want an answer by hand. Assumes nothing.
 use borrow.Author.Rules.{rules}
 use Rattle.ring.proofs.Places.{picked_none, picked_more}
 use Rattle.ring.proofs.largest.push_all.Goals as goal

@@ -1,4 +1,4 @@
--- The loop has pushed in the bytes from k on.
+-- The loop of `ring::largest::push_all`. It has pushed in the bytes from k on. Assumes nothing.
 use lib.ListN.{length}
 use Rattle.ring.proofs.Places.{Picked}
 use Rattle.ring.proofs.largest.push_all.Given as goal

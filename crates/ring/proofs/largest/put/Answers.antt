@@ -1,3 +1,4 @@
+-- The goals of `ring::largest::put` that want an answer by hand. Assumes nothing.
 use borrow.Author.Rules.{rules}
 use native.Mathlib.Omega.{arith}
 use Rattle.ring.proofs.Places.{pushing_more, pushing_past, pushing_all}

@@ -1,4 +1,4 @@
--- The loop has pushed past the first i places.
+-- The loop of `ring::largest::put`. It has pushed past the first i places. Assumes nothing.
 use Prim.Native.Nat.{◌-◌}
 use lib.ListN.{length}
 use Rattle.ring.proofs.Places.{Pushing}

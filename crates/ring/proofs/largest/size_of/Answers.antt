@@ -1,3 +1,4 @@
+-- The goals of `ring::largest::size_of` that want an answer by hand. Assumes nothing.
 use borrow.Author.Rules.{rules}
 use Rattle.whole.specs.TwosLaws.{size_low, size_high}
 use Rattle.ring.proofs.largest.size_of.Goals as goal

@@ -1,3 +1,4 @@
+-- The goals of `ring::largest::sum_passes` that want an answer by hand. Assumes nothing.
 use Rattle.ring.specs.Largest.{sum_passes}
 use Rattle.ring.proofs.largest.sum_passes.Goals as goal
 

@@ -1,3 +1,4 @@
+-- The goals of `ring::product::fold` that want an answer by hand. Assumes nothing.
 use borrow.Author.Rules.{rules}
 use Rattle.ring.proofs.ProductLaws.{after_none, after_more}
 use Rattle.ring.proofs.product.fold.Goals as goal

@@ -1,4 +1,4 @@
--- The sum stands for acc and the first i products.
+-- The loop of `ring::product::fold`. The sum stands for acc and the first i products. Assumes nothing.
 use Prim.Native.Nat.{◌-◌, ◌≤◌}
 use Rattle.ring.proofs.ProductLaws.{After}
 use Rattle.ring.proofs.product.fold.Given as goal

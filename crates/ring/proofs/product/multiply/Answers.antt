@@ -1,3 +1,4 @@
+-- The goals of `ring::product::multiply` that want an answer by hand. Assumes nothing.
 use native.Mathlib.Omega.{arith}
 use Rattle.whole.specs.Fill.{wrote_none, wrote_more}
 use Rattle.ring.proofs.ProductLaws.{row_of}

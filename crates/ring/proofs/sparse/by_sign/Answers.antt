@@ -1,3 +1,4 @@
+-- The goals of `ring::sparse::by_sign` that want an answer by hand. Assumes nothing.
 use borrow.Author.Rules.{rules}
 use Rattle.ring.proofs.SparseLaws.{near_by_plus, near_by_minus, is_plus, is_minus}
 use Rattle.ring.proofs.sparse.by_sign.Goals as goal

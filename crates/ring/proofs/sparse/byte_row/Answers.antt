@@ -1,3 +1,4 @@
+-- The goals of `ring::sparse::byte_row` that want an answer by hand. Assumes nothing.
 use borrow.Author.Rules.{rules}
 use Rattle.ring.proofs.SparseLaws.{byte_summed_none, byte_summed_next, byte_summed_all}
 use Rattle.ring.proofs.sparse.byte_row.Goals as goal

@@ -1,4 +1,4 @@
--- The sum is that of the first j terms.
+-- The loop of `ring::sparse::byte_row`. The sum is that of the first j terms. Assumes nothing.
 use Prim.Native.Nat.{◌-◌, ◌≤◌}
 use lib.ListN.{length}
 use Rattle.ring.specs.Lists.{signed_bytes}

@@ -1,3 +1,4 @@
+-- The goals of `ring::sparse::row` that want an answer by hand. Assumes nothing.
 use borrow.Author.Rules.{rules}
 use Rattle.ring.proofs.SparseLaws.{summed_none, summed_more, summed_all, sign_at}
 use Rattle.ring.proofs.sparse.row.Goals as goal

@@ -1,4 +1,4 @@
--- The sum stands for the first j terms.
+-- The loop of `ring::sparse::row`. The sum stands for the first j terms. Assumes nothing.
 use Prim.Native.Nat.{◌-◌, ◌≤◌}
 use lib.ListN.{length}
 use Rattle.ring.specs.Lists.{naturals}

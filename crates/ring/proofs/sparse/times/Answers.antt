@@ -1,3 +1,4 @@
+-- The goals of `ring::sparse::times` that want an answer by hand. Assumes nothing.
 use native.Mathlib.Omega.{arith}
 use Rattle.whole.specs.Fill.{wrote_none, wrote_more}
 use Rattle.ring.proofs.SparseLaws.{sparse_row_of}

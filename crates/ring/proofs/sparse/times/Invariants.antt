@@ -1,4 +1,4 @@
--- The first k coefficients are written.
+-- The loop of `ring::sparse::times`. The first k coefficients are written. Assumes nothing.
 use Prim.Native.Nat.{◌-◌}
 use lib.ListN.{length}
 use Rattle.whole.specs.Residue.{residue}

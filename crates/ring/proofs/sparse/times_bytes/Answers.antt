@@ -1,3 +1,4 @@
+-- The goals of `ring::sparse::times_bytes` that want an answer by hand. Assumes nothing.
 use borrow.Author.Rules.{sfits_of}
 use native.Mathlib.Omega.{arith}
 use Rattle.whole.specs.Fill.{wrote_none, wrote_more}

@@ -1,3 +1,4 @@
+-- The goals of `ring::sparse::turned` that want an answer by hand. Assumes nothing.
 use borrow.Author.Rules.{rules}
 use Rattle.ring.proofs.SparseLaws.{turned_low, turned_high}
 use Rattle.ring.proofs.sparse.turned.Goals as goal

@@ -1,3 +1,4 @@
+-- The goals of `ring::sparse::turned_byte` that want an answer by hand. Assumes nothing.
 use borrow.Author.Rules.{sfits_of}
 use Prim.Native.Nat.{◌+◌, ◌-◌}
 use lib.ListN.{length, get_or}

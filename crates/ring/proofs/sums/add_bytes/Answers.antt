@@ -1,3 +1,4 @@
+-- The goals of `ring::sums::add_bytes` that want an answer by hand. Assumes nothing.
 use borrow.Author.Rules.{rules}
 use mathlib.Core.Path.{◌∙◌}
 use native.Mathlib.Omega.{arith}

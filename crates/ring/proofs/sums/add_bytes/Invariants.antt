@@ -1,4 +1,4 @@
--- The loop has written the sums at the first i places.
+-- The loop of `ring::sums::add_bytes`. It has written the sums at the first i places. Assumes nothing.
 use Prim.Native.Nat.{◌-◌}
 use lib.ListN.{length}
 use lib.IntN.{◌+ℤ◌}

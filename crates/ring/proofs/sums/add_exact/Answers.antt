@@ -1,3 +1,4 @@
+-- The goals of `ring::sums::add_exact` that want an answer by hand. Assumes nothing.
 use lib.IntN.{pos}
 use mir.Facts.{to_z-of_z}
 use Rattle.whole.specs.Fill.{wrote_none, wrote_more, wrote_ahead}

@@ -1,3 +1,4 @@
+-- The goals of `ring::sums::minus` that want an answer by hand. Assumes nothing.
 use Rattle.ring.proofs.Numbers.{minus_low, minus_high}
 use borrow.Author.Rules.{rules}
 use Rattle.ring.proofs.sums.minus.Goals as goal

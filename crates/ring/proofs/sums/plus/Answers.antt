@@ -1,3 +1,4 @@
+-- The goals of `ring::sums::plus` that want an answer by hand. Assumes nothing.
 use borrow.Author.Rules.{rules}
 use Rattle.ring.proofs.Numbers.{plus_low, plus_high}
 use Rattle.ring.proofs.sums.plus.Goals as goal

@@ -1,3 +1,4 @@
+-- The goals of `ring::sums::plus_byte` that want an answer by hand. Assumes nothing.
 use borrow.Author.Rules.{sfits_of}
 use mathlib.Core.Path.{◌≡◌, ◌∙◌}
 use native.Mathlib.Omega.{arith}

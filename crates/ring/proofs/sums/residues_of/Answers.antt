@@ -1,3 +1,4 @@
+-- The goals of `ring::sums::residues_of` that want an answer by hand. Assumes nothing.
 use mathlib.Core.Path.{◌∙◌}
 use native.Mathlib.Omega.{arith}
 use lib.IntN.{+ℤ_idl}

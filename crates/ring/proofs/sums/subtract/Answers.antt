@@ -1,3 +1,4 @@
+-- The goals of `ring::sums::subtract` that want an answer by hand. Assumes nothing.
 use borrow.Author.Rules.{rules}
 use native.Mathlib.Omega.{arith}
 use lib.IntN.{pos, ◌-ℤ◌}

@@ -1,3 +1,4 @@
+-- The goals of `ring::sums::subtract_small` that want an answer by hand. Assumes nothing.
 use borrow.Author.Rules.{rules}
 use mathlib.Core.Path.{ap, ◌∙◌}
 use native.Mathlib.Omega.{arith}

@@ -1,4 +1,4 @@
--- The loop has written the results at the first i places.
+-- The loop of `ring::sums::subtract_small`. It has written the results at the first i places. Assumes nothing.
 use Prim.Native.Nat.{◌-◌}
 use lib.ListN.{length}
 use lib.IntN.{◌-ℤ◌}

@@ -1,4 +1,4 @@
--- `rounding::polynomial::all_sized` meets its contract. Assumes nothing.
+-- The goals of `rounding::polynomial::all_sized` that want an answer by hand. Assumes nothing.
 use borrow.Author.Rules.{rules}
 use Rattle.whole.specs.EveryLaws.{passing_stops, passing_goes, passing_all}
 use Rattle.rounding.proofs.polynomial.all_sized.Goals as goal

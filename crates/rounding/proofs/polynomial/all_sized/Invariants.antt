@@ -1,4 +1,5 @@
--- The loop's invariant: the coefficients before j pass. The measure is the number of those left.
+-- The loop of `rounding::polynomial::all_sized`. Its invariant: the coefficients before j pass. The measure is the number of those
+-- left. Assumes nothing.
 use Prim.Native.Nat.{◌-◌}
 use lib.ListN.{length}
 use lib.IntN.{pos}

@@ -1,4 +1,4 @@
--- `rounding::polynomial::high_bytes` meets its contract. Assumes nothing.
+-- The goals of `rounding::polynomial::high_bytes` that want an answer by hand. Assumes nothing.
 use borrow.Author.Rules.{rules, sfits_of}
 use mathlib.Core.Path.{◌≡◌, ap, ◌∙◌}
 use native.Mathlib.Omega.{arith}

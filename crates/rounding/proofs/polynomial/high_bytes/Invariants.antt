@@ -1,5 +1,5 @@
--- The loop's invariant: the bytes of the first k high parts are written, and `fits` says whether those fit.
--- The measure is the number of those left.
+-- The loop of `rounding::polynomial::high_bytes`. Its invariant: the bytes of the first k high parts are written, and `fits` says
+-- whether those fit. The measure is the number of those left. Assumes nothing.
 use Prim.Native.Nat.{◌-◌}
 use lib.ListN.{length, get_or}
 use lib.IntN.{pos}

@@ -1,6 +1,5 @@
--- `sampling::drawn::draw_less` meets its contract. The loop's invariant: what stands in the output and what the candidates to come give are
--- together all the values, less b. The measure is the number of candidates to come.
--- Assumes nothing.
+-- The loop of `sampling::drawn::draw_less`. Its invariant: what stands in the output and what the candidates to come give are together all
+-- the values, less b. The measure is the number of candidates to come. Assumes nothing.
 use mathlib.Core.List.{map}
 use Prim.Native.Nat.{◌+◌, ◌*◌, ◌-◌}
 use lib.ListN.{length}

@@ -1,6 +1,5 @@
--- `sampling::drawn::draw_positions` meets its contract. The loop's invariant: what stands in the outputs and what the candidates to come
--- give are together all the positions with signs. The measure is the number of candidates to come.
--- Assumes nothing.
+-- The loop of `sampling::drawn::draw_positions`. Its invariant: what stands in the outputs and what the candidates to come give are
+-- together all the positions with signs. The measure is the number of candidates to come. Assumes nothing.
 use Prim.Native.Nat.{◌*◌}
 use lib.ListN.{length}
 use Rattle.shake.specs.Sponge.{squeezed}

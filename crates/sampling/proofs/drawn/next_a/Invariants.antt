@@ -1,6 +1,5 @@
--- `sampling::drawn::next_a` meets its contract. The loop's invariant: what stands in the output and what the candidates to come give are
--- together all the values that were left. The measure is the number of candidates to come.
--- Assumes nothing.
+-- The loop of `sampling::drawn::next_a`. Its invariant: what stands in the output and what the candidates to come give are together all the
+-- values that were left. The measure is the number of candidates to come. Assumes nothing.
 use mathlib.Core.List.{List}
 use Prim.Native.Nat.{ℕ, ◌*◌}
 use Rattle.shake.specs.Sponge.{squeezed}

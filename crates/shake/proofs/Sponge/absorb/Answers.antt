@@ -1,5 +1,4 @@
--- `Sponge::absorb` meets its contract.
--- Assumes nothing.
+-- The goals of `shake::Sponge::absorb` that want an answer by hand. Assumes nothing.
 use borrow.Author.Rules.{rules}
 use native.Mathlib.Omega.{arith}
 use Rattle.shake.proofs.Steps.{absorbing_none, absorbing_byte, absorbing_all, absorbed_is}

@@ -1,6 +1,5 @@
--- The lanes with the place come to the same with the bytes from i on as what the absorb acts on with all of them. The measure is the
--- number of bytes left.
--- Assumes nothing.
+-- The loop of `shake::Sponge::absorb`. The lanes with the place come to the same with the bytes from i on as what the absorb acts on with
+-- all of them. The measure is the number of bytes left. Assumes nothing.
 use mathlib.Core.Bool.{false}
 use Prim.Native.Nat.{◌≤◌, ◌-◌}
 use lib.ListN.{length}

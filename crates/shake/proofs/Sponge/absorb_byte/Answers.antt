@@ -1,5 +1,4 @@
--- `Sponge::absorb_byte` meets its contract: one step of absorbing, from what an absorb acts on.
--- Assumes nothing.
+-- `Sponge::absorb_byte` meets its contract: one step of absorbing, from what an absorb acts on. Assumes nothing.
 use mathlib.Core.List.{[], ◌∷◌}
 use borrow.Author.Rules.{rules}
 use native.Mathlib.Omega.{arith}

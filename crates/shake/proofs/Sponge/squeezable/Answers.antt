@@ -1,5 +1,4 @@
--- `Sponge::squeezable` meets its contract: its cases are the definition's.
--- Assumes nothing.
+-- `Sponge::squeezable` meets its contract: its cases are the definition's. Assumes nothing.
 use mathlib.Core.Path.{sym, ◌∙◌}
 use borrow.Author.Rules.{rules}
 use native.Mathlib.Omega.{arith}

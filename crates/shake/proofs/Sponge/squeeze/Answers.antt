@@ -1,5 +1,4 @@
--- `Sponge::squeeze` meets its contract: what `fill` ensures, from what a squeeze acts on.
--- Assumes nothing.
+-- `Sponge::squeeze` meets its contract: what `fill` ensures, from what a squeeze acts on. Assumes nothing.
 use borrow.Author.Rules.{rules}
 use Rattle.shake.proofs.Steps.{squeezable_near, squeezed_is, after_is}
 use Rattle.shake.proofs.Sponge.squeeze.Goals as goal

@@ -1,5 +1,4 @@
--- `Sponge::squeeze_byte` meets its contract: one step of squeezing, from what a squeeze acts on.
--- Assumes nothing.
+-- `Sponge::squeeze_byte` meets its contract: one step of squeezing, from what a squeeze acts on. Assumes nothing.
 use borrow.Author.Rules.{rules}
 use native.Mathlib.Omega.{arith}
 use Rattle.shake.proofs.Steps.{squeezing_one, squeezable_near, squeezed_is, after_is}

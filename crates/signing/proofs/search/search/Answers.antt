@@ -1,4 +1,4 @@
--- `signing::search::search` meets its contract. Assumes nothing.
+-- The goals of `signing::search::search` that want an answer by hand. Assumes nothing.
 use Rattle.signing.proofs.SearchSteps.{searching_none, searching_found, searching_overflow, searching_more, searching_end}
 use borrow.Author.Rules.{rules}
 use Rattle.signing.proofs.search.search.Goals as goal

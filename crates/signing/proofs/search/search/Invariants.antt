@@ -1,5 +1,5 @@
--- `signing::search::search` meets its contract. The loop's invariant: every counter before this one fails, so the search goes on from it,
--- and the signature is as it was. The measure is what is left of the budget. Assumes nothing.
+-- The loop of `signing::search::search`. Its invariant: every counter before this one fails, so the search goes on from it, and the
+-- signature is as it was. The measure is what is left of the budget. Assumes nothing.
 use Prim.Native.Nat.{◌+◌, ◌-◌}
 use Rattle.attempts.specs.Attempt.{key_of, attempt}
 use Rattle.signing.proofs.SearchSteps.{Searching}

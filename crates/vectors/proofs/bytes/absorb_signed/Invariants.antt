@@ -1,4 +1,4 @@
--- `bytes::absorb_signed` is safe and ends. Assumes nothing.
+-- The loop of `vectors::bytes::absorb_signed`. Assumes nothing.
 use Prim.Native.Nat.{◌≤◌, ◌-◌}
 use Rattle.vectors.proofs.bytes.absorb_signed.Given as goal
 

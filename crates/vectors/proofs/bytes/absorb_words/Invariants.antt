@@ -1,4 +1,4 @@
--- `bytes::absorb_words` is safe and ends. Assumes nothing.
+-- The loop of `vectors::bytes::absorb_words`. Assumes nothing.
 use Prim.Native.Nat.{◌≤◌, ◌-◌}
 use Rattle.vectors.proofs.bytes.absorb_words.Given as goal
 

@@ -1,4 +1,4 @@
--- `bytes::copy` is safe and ends. The output keeps its length. Assumes nothing.
+-- The loop of `vectors::bytes::copy`. The output keeps its length. Assumes nothing.
 use mathlib.Core.Path.{◌≡◌}
 use Prim.Native.Nat.{◌≤◌, ◌-◌}
 use lib.ListN.{length}

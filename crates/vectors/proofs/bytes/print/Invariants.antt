@@ -1,4 +1,4 @@
--- `bytes::print` is safe and ends. Assumes nothing.
+-- The loop of `vectors::bytes::print`. Assumes nothing.
 use Prim.Native.Nat.{◌≤◌, ◌-◌}
 use lib.ListN.{length}
 use Rattle.vectors.proofs.bytes.print.Given as goal

@@ -1,4 +1,4 @@
--- `bytes::print_pairs` is safe and ends. Assumes nothing.
+-- The loop of `vectors::bytes::print_pairs`. Assumes nothing.
 use Prim.Native.Nat.{◌≤◌, ◌-◌}
 use Rattle.vectors.proofs.bytes.print_pairs.Given as goal
 

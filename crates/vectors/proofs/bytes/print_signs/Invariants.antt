@@ -1,4 +1,4 @@
--- `bytes::print_signs` is safe and ends. Assumes nothing.
+-- The loop of `vectors::bytes::print_signs`. Assumes nothing.
 use Prim.Native.Nat.{◌≤◌, ◌-◌}
 use Rattle.vectors.proofs.bytes.print_signs.Given as goal
 

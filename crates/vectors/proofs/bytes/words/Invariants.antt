@@ -1,4 +1,4 @@
--- `bytes::words` meets its contract. The output keeps its length. Assumes nothing.
+-- The loop of `vectors::bytes::words`. The output keeps its length. Assumes nothing.
 use mathlib.Core.Path.{◌≡◌}
 use Prim.Native.Nat.{◌≤◌, ◌-◌}
 use lib.ListN.{length}

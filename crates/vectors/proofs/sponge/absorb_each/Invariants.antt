@@ -1,4 +1,4 @@
--- `sponge::absorb_each` is safe and ends. Assumes nothing.
+-- The loop of `vectors::sponge::absorb_each`. Assumes nothing.
 use Prim.Native.Nat.{◌≤◌, ◌-◌}
 use lib.ListN.{length}
 use Rattle.vectors.proofs.sponge.absorb_each.Given as goal

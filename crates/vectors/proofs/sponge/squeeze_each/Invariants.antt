@@ -1,4 +1,4 @@
--- `sponge::squeeze_each` is safe and ends. Assumes nothing.
+-- The loop of `vectors::sponge::squeeze_each`. Assumes nothing.
 use Prim.Native.Nat.{◌≤◌, ◌-◌}
 use Rattle.vectors.proofs.sponge.squeeze_each.Given as goal
 

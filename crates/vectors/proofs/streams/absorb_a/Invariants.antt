@@ -1,4 +1,4 @@
--- `streams::absorb_a` is safe and ends. The loop's invariant: a_1..a_i are drawn, and the slice keeps its length. Assumes nothing.
+-- The loop of `vectors::streams::absorb_a`. Its invariant: a_1..a_i are drawn, and the slice keeps its length. Assumes nothing.
 use mathlib.Core.Path.{◌≡◌}
 use Prim.Native.Nat.{◌-◌}
 use lib.ListN.{length}
