@@ -11,6 +11,10 @@ use Rattle.records.proofs.write_secret.Kinds as write_secret_kinds
 use Rattle.records.proofs.write_secret.Reads as write_secret
 use Rattle.records.proofs.read_secret.Kinds as read_secret_kinds
 use Rattle.records.proofs.read_secret.Reads as read_secret
+use Rattle.records.proofs.choice.set_of.Kinds as choice_set_of_kinds
+use Rattle.records.proofs.choice.set_of.Reads as choice_set_of
+use Rattle.records.proofs.choice.own_set.Kinds as choice_own_set_kinds
+use Rattle.records.proofs.choice.own_set.Reads as choice_own_set
 use Rattle.records.proofs.pieces.copy_at.Kinds as pieces_copy_at_kinds
 use Rattle.records.proofs.pieces.copy_at.Reads as pieces_copy_at
 use Rattle.records.proofs.pieces.copy_out.Kinds as pieces_copy_out_kinds
@@ -90,6 +94,14 @@ read_secret_seed_y κs a x y e f p q = p.seed_y.is ∙ sym q.seed_y.is
 
 pub read_secret_g : Output 6 read_secret_kinds.ps read_secret_kinds.r read_secret.Learnt (λ κs e. e.1.1.1.1.1.0.now)
 read_secret_g κs a x y e f p q = p.g.is ∙ sym q.g.is
+
+-- ---- the choice
+
+pub choice_set_of_determined : Result 1 choice_set_of_kinds.ps choice_set_of_kinds.r choice_set_of.Learnt
+choice_set_of_determined κs a x y e f p q = p ∙ sym q
+
+pub choice_own_set_determined : Result 1 choice_own_set_kinds.ps choice_own_set_kinds.r choice_own_set.Learnt
+choice_own_set_determined κs a x y e f p q = p ∙ sym q
 
 -- ---- pieces
 

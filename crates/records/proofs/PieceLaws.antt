@@ -1,7 +1,7 @@
--- Laws of the pieces: a mark that is written and tested, and bytes from the middle of a list.
+-- Laws of the pieces: a mark that is written and tested, the set that it gives, and bytes from the middle of a list.
 -- Assumes nothing.
-use mathlib.Core.Path.{◌≡◌, ◌∙◌}
-use mathlib.Core.Bool.{false}
+use mathlib.Core.Path.{◌≡◌, sym, ap, ◌∙◌}
+use mathlib.Core.Bool.{Bool, true, false, cond}
 use mathlib.Core.List.{List, [], ◌∷◌, ◌++◌, append-nil}
 use Prim.Native.Nat.{ℕ, ◌+◌, ◌*◌, ◌≤◌, ◌-◌}
 use native.Mathlib.Nat.{add-sub_cancel_left}
@@ -10,7 +10,10 @@ use lib.Dec.{eqb}
 use lib.ListN.{length, get_or, drop, set, take}
 use borrow.Author.Tests.{eq-eqb, ne_eqb}
 use Rattle.sets.specs.declared.Numbers.{Numbers}
+use Rattle.sets.specs.SetI.{set_i}
+use Rattle.sets.specs.SetIII.{set_iii}
 use Rattle.records.specs.Layout.{marked}
+use Rattle.records.specs.Choice.{set_of, own_set}
 use Rattle.records.specs.Asks.{CopiesOut}
 use lib.Seq.{drop-length}
 use Rattle.whole.specs.Parts.{part_length}
@@ -31,6 +34,28 @@ module _ (s : Numbers) (j : ℕ) (bytes : List ℕ) {first : ℕ} (e : first ≡
   pub mark_same : {second b : ℕ} → first ≡ 0x51 → second ≡ get_or bytes 1 0 → b ≡ 16 * s.digit + j → eqb second b ≡ marked s j bytes
   unfolding marked
   mark_same h f g = rw (← e, eq-eqb first 0x51 h, f, g)
+
+-- the set of a mark: `third` is set III, and `is` whether the record has its mark
+module _ (j : ℕ) (bytes : List ℕ) {third : Numbers} {is : Bool} (e : third ≡ set_iii) (m : is ≡ marked third j bytes) where
+  chosen : {b : Bool} → is ≡ b → set_of j bytes ≡ cond b set_iii set_i
+  unfolding set_of
+  chosen h = ap (λ (b : Bool). cond b set_iii set_i) (ap (λ (s : Numbers). marked s j bytes) (sym e) ∙ sym m ∙ h)
+
+  pub set_third : is ≡ true → third ≡ set_of j bytes
+  set_third h = e ∙ sym (chosen h)
+
+  pub set_first : {first : Numbers} → is ≡ false → first ≡ set_i → first ≡ set_of j bytes
+  set_first h f = f ∙ sym (chosen h)
+
+-- the set beside one that an entry works in: `is` is whether the record has that one's mark
+module _ (set : Numbers) (j : ℕ) (bytes : List ℕ) {is : Bool} (m : is ≡ marked set j bytes) where
+  pub own_here : is ≡ true → set ≡ own_set set j bytes
+  unfolding own_set
+  own_here h = rw (← m, h)
+
+  pub own_other : {other : Numbers} → is ≡ false → other ≡ set_of j bytes → other ≡ own_set set j bytes
+  unfolding own_set
+  own_other h f = f ∙ rw (← m, h)
 
 -- ---- bytes from the middle of a list
 

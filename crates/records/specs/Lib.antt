@@ -8,3 +8,5 @@ pub mod SecretLaws
 pub mod Asks
 pub mod RoundTripLaws
 pub mod Promises
+pub mod Choice
+pub mod ChoiceLaws

@@ -2,6 +2,7 @@
 
 #![tactic(auto)]
 
+pub mod choice;
 pub mod pieces;
 pub mod public;
 pub mod secret;
