@@ -1,4 +1,5 @@
 pub mod Tests
 pub mod TestLaws
 pub mod OutputLaws
+pub mod ResultLaws
 pub mod Answers

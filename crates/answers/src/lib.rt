@@ -1,14 +1,13 @@
-// What comes back: document 01's numbers, one case for each, whichever entry answers it. Which of them an entry can give is said by its
-// list of tests; signing's 8 and 10 come from its search.
+// What comes back: document 01's numbers, one refusal for each but 0, whichever entry gives it. Which of them an entry can give is said by
+// its list of tests; signing's 8 and 10 come from its search.
 #![tactic(auto)]
 
-ghost use Rattle.std.specs.Prelude.{◌≡◌, eqb};
-ghost use Rattle.answers.specs.Answers.{number_of};
+ghost use Rattle.std.specs.Prelude.{◌≡◌};
+ghost use Rattle.answers.specs.Answers.{refusal_number, number_of};
 
-#[derive(Clone, Copy)]
-pub enum Answer {
-    // 0: done or accepted
-    Done,
+// Why an entry refuses.
+#[derive(Clone, Copy, Debug, PartialEq, Eq)]
+pub enum Refusal {
     // 1: a length is not the one named, or a stream has too few candidates
     Length,
     // 2: a mark is wrong
@@ -33,31 +32,33 @@ pub enum Answer {
     Hash,
 }
 
-impl Answer {
+impl From<Refusal> for u8 {
     // Document 01's number.
-    pub fn number(self) -> u8
-        ensures { result ≡ number_of self }
-    {
-        match self {
-            Answer::Done => 0,
-            Answer::Length => 1,
-            Answer::Mark => 2,
-            Answer::Message => 3,
-            Answer::Budget => 4,
-            Answer::Value => 5,
-            Answer::SumS => 6,
-            Answer::SumE => 7,
-            Answer::None => 8,
-            Answer::Z => 9,
-            Answer::High => 10,
-            Answer::Hash => 11,
+    ghost from_gives = { λ refusal r. r ≡ refusal_number refusal };
+
+    fn from(refusal: Refusal) -> u8 {
+        match refusal {
+            Refusal::Length => 1,
+            Refusal::Mark => 2,
+            Refusal::Message => 3,
+            Refusal::Budget => 4,
+            Refusal::Value => 5,
+            Refusal::SumS => 6,
+            Refusal::SumE => 7,
+            Refusal::None => 8,
+            Refusal::Z => 9,
+            Refusal::High => 10,
+            Refusal::Hash => 11,
         }
     }
+}
 
-    // Whether nothing was refused.
-    pub fn is_done(self) -> bool
-        ensures { result ≡ eqb (number_of self) 0 }
-    {
-        self.number() == 0
+// Document 01's number of what an entry answers: 0 where nothing was refused.
+pub fn number<T>(answer: &Result<T, Refusal>) -> u8
+    ensures { result ≡ number_of answer.now }
+{
+    match answer {
+        Ok(_) => 0,
+        Err(refusal) => u8::from(*refusal),
     }
 }

@@ -1,13 +1,12 @@
 -- The tests of the inputs, then those of the hash. Assumes nothing.
 use mathlib.Core.Path.{◌≡◌, refl}
-use mathlib.Core.Bool.{Bool, true, false, not}
+use mathlib.Core.Bool.{true}
 use mathlib.Core.List.{List}
 use Prim.Native.Nat.{ℕ}
-use lib.Dec.{eqb}
-use borrow.Author.Tests.{eqb-true, not-false}
+use borrow.Author.Tests.{eqb-true}
 use Rattle.whole.specs.Every.{every}
 use Rattle.answers.specs.Tests.{Answered, AllPass, numbered}
-use Rattle.answers.specs.TestLaws.{all_passed}
+use Rattle.answers.specs.ResultLaws.{passed_ok}
 use Rattle.sets.specs.declared.Numbers.{Numbers}
 use Rattle.sets.specs.SetI.{set_i}
 use Rattle.sampling.specs.Streams.{message_digest}
@@ -18,11 +17,11 @@ pub inputs_numbered : (set : Numbers) (public : List ℕ) (message : ℕ) (signa
 unfolding input_tests every
 inputs_numbered set public message signature = refl
 
-pub inputs_tested : {set : Numbers} {public signature : List ℕ} (message : ℕ) {number : ℕ} {done : Bool}
-    → Answered (input_tests set public message signature) number → done ≡ eqb number 0 → not done ≡ false → Tested set public signature
+pub inputs_tested : {set : Numbers} {public signature : List ℕ} (message : ℕ)
+    → Answered (input_tests set public message signature) 0 → Tested set public signature
 unfolding input_tests AllPass every
-inputs_tested message {done = done} a e h =
-    let p = all_passed refl a e (not-false done h) in
+inputs_tested message a =
+    let p = passed_ok a refl in
     record {
       public_long = eqb-true _ _ p.0;
       signature_long = eqb-true _ _ p.1.0;

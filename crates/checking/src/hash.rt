@@ -8,7 +8,7 @@ ghost use Rattle.sets.specs.SetI.{set_i};
 ghost use Rattle.checking.specs.Asks.{ForW, ForT, ForTIn};
 ghost use Rattle.checking.specs.Steps.{IsW, Begun, OneMore, Judged};
 
-use answers::Answer;
+use answers::Refusal;
 use highs::Highs;
 use sampling::drawn::DrawA;
 use sets::{DIGEST_BYTES, Numbers, SEED_BYTES, SetI};
@@ -131,18 +131,18 @@ pub(crate) fn judge(
     digest: &[u8; DIGEST_BYTES],
     g: &[u8; DIGEST_BYTES],
     c: &[u8],
-) -> Answer
+) -> Result<(), Refusal>
     requires { Good set }
     ensures { Judged set highs digest.now g.now c.now (number_of result) }
 {
     let fit = highs.fit;
     if !fit {
-        return Answer::High;
+        return Err(Refusal::High);
     }
     let mut found = [0u8; SEED_BYTES];
     highs::hash(set, highs, digest, g, &mut found);
     if !same_bytes(&found, c) {
-        return Answer::Hash;
+        return Err(Refusal::Hash);
     }
-    Answer::Done
+    Ok(())
 }

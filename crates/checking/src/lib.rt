@@ -12,18 +12,15 @@ ghost use Rattle.sets.specs.Known.{Known};
 ghost use Rattle.sets.specs.SetI.{set_i};
 ghost use Rattle.checking.specs.Check.{digest_tests, check_tests};
 
-use answers::Answer;
+use answers::Refusal;
 use sets::{DIGEST_BYTES, Numbers, SetI};
 
 // Whether the signature record on the message passes under the public record.
-fn check_in(set: Numbers, public: &[u8], message: &[u8], signature: &[u8]) -> Answer
+fn check_in(set: Numbers, public: &[u8], message: &[u8], signature: &[u8]) -> Result<(), Refusal>
     requires { Known set }
     ensures { Answered (check_tests set public.now message.now signature.now) (number_of result) }
 {
-    let tested = tests::test_inputs(set, public, message.len(), signature);
-    if !tested.is_done() {
-        return tested;
-    }
+    tests::test_inputs(set, public, message.len(), signature)?;
     let mut digest = [0u8; DIGEST_BYTES];
     sampling::digests::message_digest(set, message, &mut digest);
     work::check_hash(set, public, &digest, signature)
@@ -36,19 +33,16 @@ fn check_digest_in(
     len: usize,
     digest: &[u8; DIGEST_BYTES],
     signature: &[u8],
-) -> Answer
+) -> Result<(), Refusal>
     requires { Known set }
     ensures { Answered (digest_tests set public.now len digest.now signature.now) (number_of result) }
 {
-    let inputs = tests::test_inputs(set, public, len, signature);
-    if !inputs.is_done() {
-        return inputs;
-    }
+    tests::test_inputs(set, public, len, signature)?;
     work::check_hash(set, public, digest, signature)
 }
 
 // Set I: whether the signature record on the message passes under the public record.
-pub fn check(public: &[u8], message: &[u8], signature: &[u8]) -> Answer
+pub fn check(public: &[u8], message: &[u8], signature: &[u8]) -> Result<(), Refusal>
     ensures { Answered (check_tests set_i public.now message.now signature.now) (number_of result) }
 {
     check_in(SetI::numbers(), public, message, signature)
@@ -60,7 +54,7 @@ pub fn check_digest(
     len: usize,
     digest: &[u8; DIGEST_BYTES],
     signature: &[u8],
-) -> Answer
+) -> Result<(), Refusal>
     ensures { Answered (digest_tests set_i public.now len digest.now signature.now) (number_of result) }
 {
     check_digest_in(SetI::numbers(), public, len, digest, signature)

@@ -4,34 +4,39 @@ ghost use Rattle.answers.specs.Tests.{Answered};
 ghost use Rattle.sets.specs.Known.{Known};
 ghost use Rattle.checking.specs.Check.{input_tests};
 
-use answers::Answer;
+use answers::Refusal;
 use sets::Numbers;
 
 // The tests 1, 2, 3, 5 and 9, the message by its length.
-pub(crate) fn test_inputs(set: Numbers, public: &[u8], message: usize, signature: &[u8]) -> Answer
+pub(crate) fn test_inputs(
+    set: Numbers,
+    public: &[u8],
+    message: usize,
+    signature: &[u8],
+) -> Result<(), Refusal>
     requires { Known set }
     ensures { Answered (input_tests set public.now message signature.now) (number_of result) }
 {
     if public.len() != records::public::public_bytes(set) {
-        return Answer::Length;
+        return Err(Refusal::Length);
     }
     if signature.len() != signatures::signature_bytes(set) {
-        return Answer::Length;
+        return Err(Refusal::Length);
     }
     if !records::pieces::is_marked(set, 1, public) {
-        return Answer::Mark;
+        return Err(Refusal::Mark);
     }
     if !records::pieces::is_marked(set, 3, signature) {
-        return Answer::Mark;
+        return Err(Refusal::Mark);
     }
     if sets::MESSAGE_LIMIT < message {
-        return Answer::Message;
+        return Err(Refusal::Message);
     }
     if !records::public::t_passes(set, public) {
-        return Answer::Value;
+        return Err(Refusal::Value);
     }
     if !signatures::z_passes(set, signature) {
-        return Answer::Z;
+        return Err(Refusal::Z);
     }
-    Answer::Done
+    Ok(())
 }

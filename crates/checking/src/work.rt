@@ -13,7 +13,7 @@ ghost use Rattle.checking.specs.Check.{public_g, work_tests};
 ghost use Rattle.checking.specs.Steps.{highs_upto, highs_of_record};
 
 use crate::hash::{add_t, begin, judge};
-use answers::Answer;
+use answers::Refusal;
 use highs::Highs;
 use sets::{DIGEST_BYTES, Numbers, SEED_BYTES, SetI};
 
@@ -123,7 +123,7 @@ fn check_hash_in(
     signature: &[u8],
     zr: &mut [u32],
     t: &mut [u32],
-) -> Answer
+) -> Result<(), Refusal>
     requires known { Known set }
     requires for_work { ForWork set public.now signature.now zr.old t.old }
     ensures { Answered (work_tests set public.now digest.now signature.now) (number_of result) }
@@ -143,7 +143,7 @@ fn check_hash_i(
     public: &[u8],
     digest: &[u8; DIGEST_BYTES],
     signature: &[u8],
-) -> Answer
+) -> Result<(), Refusal>
     requires set_value { set ≡ set_i }
     requires tested { Tested set public.now signature.now }
     ensures { Answered (work_tests set public.now digest.now signature.now) (number_of result) }
@@ -159,7 +159,7 @@ pub(crate) fn check_hash(
     public: &[u8],
     digest: &[u8; DIGEST_BYTES],
     signature: &[u8],
-) -> Answer
+) -> Result<(), Refusal>
     requires known { Known set }
     requires tested { Tested set public.now signature.now }
     ensures { Answered (work_tests set public.now digest.now signature.now) (number_of result) }
@@ -167,6 +167,6 @@ pub(crate) fn check_hash(
     let digit = set.digit;
     match digit {
         1 => check_hash_i(set, public, digest, signature),
-        _ => Answer::Hash,
+        _ => Err(Refusal::Hash),
     }
 }

@@ -27,11 +27,11 @@ use Rattle.records.specs.Layout.{stretch}
 use Rattle.keys.specs.Key.{public_of, secret_of, make_key_tests}
 use Rattle.keys.specs.Promises.{MakesKey}
 use Rattle.signing.specs.Sign.{Asked}
-use Rattle.signing.specs.Promises.{Signs}
+use Rattle.signing.specs.Promises.{Signs, counter_of}
 use Rattle.checking.specs.Check.{check_tests}
 use Rattle.envelope.specs.Envelope.{head_bytes, envelope_bytes, envelope_of, team_of, roster_of, message_of, signature_of, head_tests, write_tests, open_tests, team_answered, length_answered, roster_answered}
 use Rattle.envelope.specs.EnvelopeLaws.{opens_roster}
-use Rattle.envelope.specs.Promises.{WritesEnvelope, Opens}
+use Rattle.envelope.specs.Promises.{WritesEnvelope, Opens, opened_team, opened_len}
 use Rattle.keys.proofs.make_key.Kinds as make_key_kinds
 use Rattle.keys.proofs.make_key.Reads as make_key
 use Rattle.signing.proofs.sign.Kinds as sign_kinds
@@ -115,8 +115,8 @@ signed c =
       budget = c.lent.1.1.1.0;
       old = c.lent.1.1.1.1.0.now;
       signature = c.left.1.1.1.1.0.now;
-      number = number_of c.back.answer;
-      counter = c.back.counter;
+      number = number_of c.back;
+      counter = counter_of c.back;
     }
 
 abbrev pub SignRoster : Type 0
@@ -143,8 +143,8 @@ roster_signed c =
       budget = c.lent.1.1.1.1.0;
       old = c.lent.1.1.1.1.1.0.now;
       signature = c.left.1.1.1.1.1.0.now;
-      number = number_of c.back.answer;
-      counter = c.back.counter;
+      number = number_of c.back;
+      counter = counter_of c.back;
     }
 
 -- the same as a signing of the joined bytes
@@ -210,9 +210,9 @@ opened c =
     record {
       public = c.lent.0.now;
       envelope = c.lent.1.0.now;
-      number = number_of c.back.answer;
-      team = c.back.team;
-      len = c.back.len;
+      number = number_of c.back;
+      team = opened_team c.back;
+      len = opened_len c.back;
     }
 
 abbrev pub OpenRoster : Type 0

@@ -1,15 +1,18 @@
 -- The contracts of this crate's public functions determine their results and what each output holds at exit; of a part of the lent
 -- envelope, the bytes.
 -- Assumes nothing.
-use mathlib.Core.Path.{◌≡◌, sym, ◌∙◌}
+use mathlib.Core.Path.{◌≡◌, sym, ap, ◌∙◌}
 use mathlib.Core.List.{List}
 use Prim.Native.Nat.{ℕ}
+use Rattle.std.specs.Prelude as std
+use Rattle.std.specs.Prelude.{Ok}
 use Rattle.whole.specs.Determined.{Result, Output, Held}
-use Rattle.answers.specs.Answers.{number_of, number_one}
+use Rattle.answers.specs.declared.Refusal.{Refusal}
+use Rattle.answers.specs.Answers.{number_of, number_one, answer_one}
 use Rattle.answers.specs.Tests.{Test}
 use Rattle.answers.specs.OutputLaws.{same_number, same_output}
 use Rattle.envelope.specs.declared.Opened.{Opened}
-use Rattle.envelope.specs.Promises.{Opens}
+use Rattle.envelope.specs.Promises.{Opens, opened_team, opened_len}
 use Rattle.envelope.proofs.write.Kinds as write_kinds
 use Rattle.envelope.proofs.write.Reads as write
 use Rattle.envelope.proofs.read.Kinds as read_kinds
@@ -35,13 +38,18 @@ write_envelope κs a x y e f p q = same_output p.envelope q.envelope
 
 -- ---- reading and opening
 
-opens_one : {ts : List Test} {envelope : List ℕ} (x y : Opened) → Opens ts envelope (number_of x.answer) x.team x.len
-    → Opens ts envelope (number_of y.answer) y.team y.len → x ≡ y
-opens_one x y p q =
-    let answers = number_one x.answer y.answer (same_number p.answered q.answered) in
-    let teams = same_output p.team_is q.team_is in
-    let lens = same_output p.len_is q.len_is in
-    rw (answers, teams, lens)
+opens_one : {ts : List Test} {envelope : List ℕ} (x y : std.Result Opened Refusal) → Opens ts envelope (number_of x) (opened_team x) (opened_len x)
+    → Opens ts envelope (number_of y) (opened_team y) (opened_len y) → x ≡ y
+opens_one x y p q = answer_one x y (same_number p.answered q.answered) (λ n m e g. one n m (teams e g) (lens e g))
+  where
+    one : (n m : Opened) → n.team ≡ m.team → n.len ≡ m.len → n ≡ m
+    one n m t l = rw (t, l)
+
+    teams : {n m : Opened} → x ≡ Ok n → y ≡ Ok m → n.team ≡ m.team
+    teams e g = ap opened_team (sym e) ∙ same_output p.team_is q.team_is ∙ ap opened_team g
+
+    lens : {n m : Opened} → x ≡ Ok n → y ≡ Ok m → n.len ≡ m.len
+    lens e g = ap opened_len (sym e) ∙ same_output p.len_is q.len_is ∙ ap opened_len g
 
 pub read_determined : Result 1 read_kinds.ps read_kinds.r read.Learnt
 read_determined κs a x y e f p q = opens_one x y p q

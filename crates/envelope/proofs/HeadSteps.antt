@@ -1,19 +1,18 @@
 -- The head of an envelope: its total by a difference, and what a head that passed says of the parts.
 -- Assumes nothing.
 use mathlib.Core.Path.{◌≡◌, sym, ap, ◌∙◌}
-use mathlib.Core.Bool.{Bool, false, not}
+use mathlib.Core.Bool.{false}
 use mathlib.Core.List.{List, [], ◌∷◌}
 use Prim.Native.Nat.{ℕ, ◌+◌, ◌-◌, ◌≤◌, ◌<◌}
 use native.Mathlib.Omega.{arith}
 use lib.Dec.{eqb, leb}
 use lib.ListN.{length}
-use borrow.Author.Tests.{ne_eqb, not-false}
+use borrow.Author.Tests.{ne_eqb}
 use mir.Syntax.{w64}
 use mir.Val.{Fits}
 use Rattle.whole.specs.Parts.{part_length}
 use Rattle.whole.specs.TestsAlike.{eqb_alike}
 use Rattle.answers.specs.Tests.{◌or_else◌, Answered}
-use Rattle.answers.specs.TestLaws.{passed}
 use Rattle.sets.specs.declared.Numbers.{Numbers}
 use Rattle.sets.specs.Good.{Good}
 use Rattle.sets.specs.Limits.{roster_limit}
@@ -49,13 +48,12 @@ pub head_i : {s : Numbers} (envelope : List ℕ) {number : ℕ} → s ≡ set_i 
 head_i envelope e a = rw e at a
 
 -- the signature record of an envelope whose head passed is whole
-pub head_signed : {s : Numbers} (envelope : List ℕ) {signature : List ℕ} {number len : ℕ} {done : Bool} → Answered (head_tests s envelope) number
-    → done ≡ eqb number 0 → not done ≡ false → len ≡ length_of envelope → signature ≡ stretch (head_bytes + len) (signature_bytes s) envelope → LongSignature s signature
-head_signed {s} envelope {len = len} {done} a e h f g =
-    let total = envelope_total s envelope (passed a e (not-false done h)) in
+pub head_signed : {s : Numbers} (envelope : List ℕ) {signature : List ℕ} {len : ℕ} → Answered (head_tests s envelope) 0
+    → len ≡ length_of envelope → signature ≡ stretch (head_bytes + len) (signature_bytes s) envelope → LongSignature s signature
+head_signed {s} envelope {len = len} a f g =
+    let total = envelope_total s envelope (sym a.is) in
     record { long = ap length g ∙ part_length (head_bytes + len) (signature_bytes s) envelope (omega (arith, total)) }
 
 -- and L is short enough for the two bytes of the team number to come before the roster
-pub head_word : (s : Numbers) (envelope : List ℕ) {number len : ℕ} {done : Bool} → Answered (head_tests s envelope) number → done ≡ eqb number 0 → not done ≡ false
-    → len ≡ length_of envelope → Fits w64 (2 + len)
-head_word s envelope {done = done} a e h f = record { fits = omega (arith, envelope_short s envelope (passed a e (not-false done h))) }
+pub head_word : (s : Numbers) (envelope : List ℕ) {len : ℕ} → Answered (head_tests s envelope) 0 → len ≡ length_of envelope → Fits w64 (2 + len)
+head_word s envelope a f = record { fits = omega (arith, envelope_short s envelope (sym a.is)) }

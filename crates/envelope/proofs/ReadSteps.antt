@@ -1,23 +1,25 @@
 -- Reading and opening: the tests that follow the head's, over the parts that the code lends, and what comes back with an answer.
 -- Assumes nothing.
-use mathlib.Core.Path.{◌≡◌, ◌∙◌}
-use mathlib.Core.Bool.{Bool, true, false, not}
+use mathlib.Core.Path.{◌≡◌, refl, sym, ◌∙◌}
 use mathlib.Core.List.{List, [], ◌∷◌, ◌++◌}
 use Prim.Native.Nat.{ℕ, ◌+◌}
-use lib.Dec.{eqb}
-use borrow.Author.Tests.{not-false}
-use Rattle.answers.specs.Tests.{◌or_else◌, Answered}
-use Rattle.answers.specs.TestLaws.{passed}
-use Rattle.answers.specs.OutputLaws.{made_done, kept_refused}
+use Rattle.std.specs.Prelude.{Result, IsErrAnd}
+use Rattle.std.proofs.lemmas.Result.{err_from_is_err_and}
+use Rattle.answers.specs.declared.Refusal.{Refusal}
+use Rattle.answers.specs.Answers.{refusal_number, number_of}
+use Rattle.answers.specs.Tests.{Test, ◌or_else◌, Answered}
+use Rattle.answers.specs.OutputLaws.{made}
+use Rattle.answers.specs.ResultLaws.{kept_err}
 use Rattle.sets.specs.declared.Numbers.{Numbers}
 use Rattle.sets.specs.SetI.{set_i}
 use Rattle.sampling.specs.Streams.{message_digest}
 use Rattle.records.specs.Layout.{marked, stretch, signature_bytes}
 use Rattle.signatures.specs.Signature.{z_of, z_in_range}
 use Rattle.checking.specs.Check.{digest_tests, check_tests}
-use Rattle.envelope.specs.Envelope.{head_bytes, team_of, team_bytes, length_of, roster_of, message_of, signature_of, head_tests, read_tests}
+use Rattle.envelope.specs.Envelope.{head_bytes, team_bytes, length_of, roster_of, message_of, signature_of, head_tests, read_tests}
 use Rattle.envelope.specs.EnvelopeLaws.{message_of_length}
-use Rattle.envelope.specs.Promises.{Opens, Comes}
+use Rattle.envelope.specs.declared.Opened.{Opened}
+use Rattle.envelope.specs.Promises.{Opens, opened, opened_team, opened_len}
 
 -- ---- the tests that follow
 
@@ -35,30 +37,32 @@ unfolding message_of roster_of
 message_hashed set envelope e f g h = h ∙ rw (e, g, f)
 
 -- checking over the length and G of the message is checking the message, where the head passed
-pub checked_opened : {set : Numbers} (public envelope : List ℕ) {digest signature : List ℕ} {len answered number : ℕ} {done : Bool} → set ≡ set_i
-    → Answered (head_tests set envelope) answered → done ≡ eqb answered 0 → not done ≡ false → len ≡ length_of envelope
+pub checked_opened : {set : Numbers} (public envelope : List ℕ) {digest signature : List ℕ} {len number : ℕ} → set ≡ set_i
+    → Answered (head_tests set envelope) 0 → len ≡ length_of envelope
     → digest ≡ message_digest set (message_of envelope) → signature ≡ stretch (head_bytes + len) (signature_bytes set) envelope
     → Answered (digest_tests set_i public (2 + len) digest signature) number → Answered (check_tests set_i public (message_of envelope) (signature_of set_i envelope)) number
 unfolding signature_of check_tests
-checked_opened {set} public envelope {done = done} s head e h f g i a =
-    rw (message_of_length set envelope (passed head e (not-false done h)), ← f) (rw (g, i, s) at a)
+checked_opened {set} public envelope s head f g i a =
+    rw (message_of_length set envelope (sym head.is), ← f) (rw (g, i, s) at a)
 
 -- ---- what comes back
 
-module _ {envelope : List ℕ} {number : ℕ} {done : Bool} (e : done ≡ eqb number 0) where
-  pub comes_done : {team len : ℕ} → done ≡ true → team ≡ team_of envelope → len ≡ length_of envelope → Comes envelope number number team len
-  comes_done h f g =
-      record { opens = λ ts a. record { answered = a; team_is = made_done a e h f; len_is = made_done a e h g } }
+-- nothing was refused
+pub opens_ok : {ts : List Test} (envelope : List ℕ) {o : Opened} → Answered ts 0 → o ≡ opened envelope → Opens ts envelope 0 o.team o.len
+opens_ok envelope a e = rw e (record { answered = a; team_is = made a refl; len_is = made a refl })
 
-  pub comes_refused : done ≡ false → Comes envelope number number 0 0
-  comes_refused h =
-      record { opens = λ ts a. record { answered = a; team_is = kept_refused a e h; len_is = kept_refused a e h } }
+-- a refusal went on
+pub opens_err : {ts : List Test} (envelope : List ℕ) (refusal : Refusal) (r : Result Opened Refusal) → Answered ts (refusal_number refusal)
+    → IsErrAnd r (λ other. other ≡ refusal) → Opens ts envelope (number_of r) (opened_team r) (opened_len r)
+opens_err {ts} envelope refusal r a e =
+    let p = err_from_is_err_and r e in
+    rw (p.1, p.2) (record { answered = a; team_is = kept_err refusal a; len_is = kept_err refusal a })
 
 -- ---- set I
 
-pub read_i : {s : Numbers} (envelope : List ℕ) {answered number team len : ℕ} → s ≡ set_i → Answered (read_tests s envelope) answered
-    → Comes envelope answered number team len → Opens (read_tests set_i envelope) envelope number team len
-read_i envelope i a c = c.opens _ (rw i at a)
+pub read_i : {s : Numbers} (envelope : List ℕ) {number : ℕ} → s ≡ set_i → Answered (read_tests s envelope) number
+    → Answered (read_tests set_i envelope) number
+read_i envelope i a = rw i at a
 
 pub signature_i : {s : Numbers} (envelope : List ℕ) (len : ℕ) {out : List ℕ} → s ≡ set_i
     → out ≡ stretch (head_bytes + len) (signature_bytes s) envelope → out ≡ stretch (head_bytes + len) (signature_bytes set_i) envelope

@@ -1,14 +1,11 @@
 -- Writing an envelope: its pieces one after the other, and what its tests say.
 -- Assumes nothing.
-use mathlib.Core.Path.{◌≡◌, refl, ◌∙◌}
-use mathlib.Core.Bool.{Bool, true}
+use mathlib.Core.Path.{◌≡◌, sym, refl, ◌∙◌}
 use mathlib.Core.List.{List, ◌++◌, append_assoc}
 use Prim.Native.Nat.{ℕ, ◌+◌, ◌≤◌}
 use native.Mathlib.Omega.{arith}
-use lib.Dec.{eqb}
 use lib.ListN.{length, take, drop}
 use Rattle.answers.specs.Tests.{Answered}
-use Rattle.answers.specs.TestLaws.{passed}
 use Rattle.sets.specs.declared.Numbers.{Numbers}
 use Rattle.sets.specs.SetI.{set_i}
 use Rattle.sampling.specs.Streams.{two_bytes}
@@ -47,9 +44,9 @@ put_is {s} team old {roster} {signature} w a b c d =
     standing_all w₄ (omega (arith, w.envelope_long, w.signature_long)) ∙ simp append_assoc
 
 -- a roster, a signature record and an envelope that pass the tests
-pub write_puts : {s : Numbers} {roster signature : List ℕ} {envelope_length number : ℕ} {done : Bool}
-    → Answered (write_tests s roster signature envelope_length) number → done ≡ eqb number 0 → done ≡ true → Writable s roster signature envelope_length
-write_puts {s} {roster} {signature} {envelope_length} a e h = writable s roster signature envelope_length (passed a e h)
+pub write_puts : {s : Numbers} {roster signature : List ℕ} {envelope_length : ℕ}
+    → Answered (write_tests s roster signature envelope_length) 0 → Writable s roster signature envelope_length
+write_puts {s} {roster} {signature} {envelope_length} a = writable s roster signature envelope_length (sym a.is)
 
 pub writes_i : {s : Numbers} {team number : ℕ} {roster signature old new : List ℕ} → s ≡ set_i
     → WritesEnvelope s team roster signature old new number → WritesEnvelope set_i team roster signature old new number

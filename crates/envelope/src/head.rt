@@ -6,7 +6,7 @@ ghost use Rattle.sets.specs.Good.{Good};
 ghost use Rattle.sets.specs.Limits.{roster_limit};
 ghost use Rattle.envelope.specs.Envelope.{envelope_bytes, team_of, team_bytes, length_of, head_tests};
 
-use answers::Answer;
+use answers::Refusal;
 use records::pieces;
 use sets::Numbers;
 
@@ -58,29 +58,29 @@ pub(crate) fn is_total(set: Numbers, len: usize, total: usize) -> bool
 }
 
 // The tests of L: its limit, and the total.
-fn test_length(set: Numbers, len: usize, total: usize) -> Answer
+fn test_length(set: Numbers, len: usize, total: usize) -> Result<(), Refusal>
     requires { Good set }
     ensures { Answered ((leb len roster_limit or_else 3) ∷ (eqb total (envelope_bytes set len) or_else 1) ∷ []) (number_of result) }
 {
     if sets::ROSTER_LIMIT < len {
-        return Answer::Message;
+        return Err(Refusal::Message);
     }
     if !is_total(set, len, total) {
-        return Answer::Length;
+        return Err(Refusal::Length);
     }
-    Answer::Done
+    Ok(())
 }
 
 // The first four tests of reading and opening, in opening's own order: fewer than 6 bytes (1), the mark (2), L (3), the total (1).
-pub(crate) fn test_head(set: Numbers, envelope: &[u8]) -> Answer
+pub(crate) fn test_head(set: Numbers, envelope: &[u8]) -> Result<(), Refusal>
     requires { Good set }
     ensures { Answered (head_tests set envelope.now) (number_of result) }
 {
     if envelope.len() < HEAD_BYTES {
-        return Answer::Length;
+        return Err(Refusal::Length);
     }
     if !pieces::is_marked(set, ENVELOPE_KIND, envelope) {
-        return Answer::Mark;
+        return Err(Refusal::Mark);
     }
     test_length(set, length_of(envelope), envelope.len())
 }

@@ -14,34 +14,34 @@ ghost use Rattle.sets.specs.SetI.{set_i};
 ghost use Rattle.records.specs.Layout.{stretch, signature_bytes};
 ghost use Rattle.envelope.specs.Envelope.{head_bytes, read_tests, open_tests, roster_answered};
 ghost use Rattle.envelope.specs.Program.{program_tests, envelope_part};
-ghost use Rattle.envelope.specs.Promises.{WritesEnvelope, Opens};
+ghost use Rattle.envelope.specs.Promises.{WritesEnvelope, Opens, opened_team, opened_len};
 
-use answers::Answer;
+use answers::Refusal;
 use sets::SetI;
 
-// What reading and opening answer, with the team number and the roster's length, both 0 on refusal.
-#[derive(Drop)]
+// What reading and opening give: the team number and the roster's length.
+#[derive(Clone, Copy, Debug, PartialEq, Eq)]
 pub struct Opened {
-    pub answer: Answer,
     pub team: u16,
     pub len: usize,
 }
 
 // Set I: writes the envelope of the team number, the roster and the signature record. On a refusal it stays as it was.
-pub fn write(team: u16, roster: &[u8], signature: &[u8], envelope: &mut [u8]) -> Answer
+pub fn write(team: u16, roster: &[u8], signature: &[u8], envelope: &mut [u8]) -> Result<(), Refusal>
     ensures { WritesEnvelope set_i team roster.now signature.now envelope.old envelope.new (number_of result) }
 {
     writing::write(SetI::numbers(), team, roster, signature, envelope)
 }
 
 // Set I: reads an envelope, without the hash.
-pub fn read(envelope: &[u8]) -> Opened
-    ensures { Opens (read_tests set_i envelope.now) envelope.now (number_of result.answer) result.team result.len }
+pub fn read(envelope: &[u8]) -> Result<Opened, Refusal>
+    ensures { Opens (read_tests set_i envelope.now) envelope.now (number_of result) (opened_team result) (opened_len result) }
 {
-    reading::opened(reading::test_read(SetI::numbers(), envelope), envelope)
+    reading::test_read(SetI::numbers(), envelope)?;
+    Ok(reading::opened(envelope))
 }
 
-// The roster of len bytes, the stretch of the lent envelope. The length 0 that a refusal answers gives the empty roster.
+// The roster of len bytes, the stretch of the lent envelope.
 pub fn roster(envelope: &[u8], len: usize) -> &[u8]
     ensures { result.now ≡ stretch head_bytes len envelope.now }
 {
@@ -57,10 +57,11 @@ pub fn signature(envelope: &[u8], len: usize) -> &[u8]
 
 // Set I: opens an envelope: the tests of its head, then checking its message, the two bytes of the team number and the roster, with the
 // public record that is lent.
-pub fn open(public: &[u8], envelope: &[u8]) -> Opened
-    ensures { Opens (open_tests set_i public.now envelope.now) envelope.now (number_of result.answer) result.team result.len }
+pub fn open(public: &[u8], envelope: &[u8]) -> Result<Opened, Refusal>
+    ensures { Opens (open_tests set_i public.now envelope.now) envelope.now (number_of result) (opened_team result) (opened_len result) }
 {
-    reading::opened(reading::test_open(public, envelope), envelope)
+    reading::test_open(public, envelope)?;
+    Ok(reading::opened(envelope))
 }
 
 // Set I: opens an envelope and gives its roster, the stretch of the lent envelope, empty on refusal. An accepted roster may be empty too:
@@ -68,20 +69,19 @@ pub fn open(public: &[u8], envelope: &[u8]) -> Opened
 pub fn open_roster<'a>(public: &[u8], envelope: &'a [u8]) -> &'a [u8]
     ensures { result.now ≡ roster_answered (answer (open_tests set_i public.now envelope.now)) envelope.now }
 {
-    roster(envelope, open(public, envelope).len)
+    match open(public, envelope) {
+        Ok(opened) => roster(envelope, opened.len),
+        Err(_) => &envelope[..0],
+    }
 }
 
 // Set I: opens an input that is a public record and then an envelope, as the program is given it.
-pub fn open_input(input: &[u8]) -> Opened
-    ensures { Opens (program_tests input.now) (envelope_part input.now) (number_of result.answer) result.team result.len }
+pub fn open_input(input: &[u8]) -> Result<Opened, Refusal>
+    ensures { Opens (program_tests input.now) (envelope_part input.now) (number_of result) (opened_team result) (opened_len result) }
 {
     let end = records::public::public_bytes(SetI::numbers());
     if input.len() < end {
-        return Opened {
-            answer: Answer::Length,
-            team: 0,
-            len: 0,
-        };
+        return Err(Refusal::Length);
     }
     open(&input[..end], &input[end..])
 }

@@ -10,37 +10,34 @@ ghost use Rattle.records.specs.Layout.{marked};
 ghost use Rattle.signatures.specs.Asks.{LongSignature};
 ghost use Rattle.signatures.specs.Signature.{z_of, z_in_range};
 ghost use Rattle.envelope.specs.Envelope.{message_of, read_tests, open_tests};
-ghost use Rattle.envelope.specs.Promises.{Comes};
+ghost use Rattle.envelope.specs.Promises.{opened};
 
 use crate::{Opened, head, parts};
-use answers::Answer;
+use answers::Refusal;
 use records::pieces;
 use sets::{DIGEST_BYTES, Numbers, SetI};
 
 // The tests of a signature record that has its length: its mark and z.
-fn test_signed(set: Numbers, signature: &[u8]) -> Answer
+fn test_signed(set: Numbers, signature: &[u8]) -> Result<(), Refusal>
     requires known { Known set }
     requires long_signature { LongSignature set signature.now }
     ensures { Answered ((marked set 3 signature.now or_else 2) ∷ (z_in_range set (z_of set signature.now) or_else 9) ∷ []) (number_of result) }
 {
     if !pieces::is_marked(set, 3, signature) {
-        return Answer::Mark;
+        return Err(Refusal::Mark);
     }
     if !signatures::z_passes(set, signature) {
-        return Answer::Z;
+        return Err(Refusal::Z);
     }
-    Answer::Done
+    Ok(())
 }
 
 // The tests of reading.
-pub(crate) fn test_read(set: Numbers, envelope: &[u8]) -> Answer
+pub(crate) fn test_read(set: Numbers, envelope: &[u8]) -> Result<(), Refusal>
     requires { Known set }
     ensures { Answered (read_tests set envelope.now) (number_of result) }
 {
-    let tested = head::test_head(set, envelope);
-    if !tested.is_done() {
-        return tested;
-    }
+    head::test_head(set, envelope)?;
     let signature = parts::signature_in(set, envelope, head::length_of(envelope));
     test_signed(set, signature)
 }
@@ -56,14 +53,11 @@ fn hash_message(set: Numbers, envelope: &[u8], digest: &mut [u8; DIGEST_BYTES])
 }
 
 // Set I: the tests of opening.
-pub(crate) fn test_open(public: &[u8], envelope: &[u8]) -> Answer
+pub(crate) fn test_open(public: &[u8], envelope: &[u8]) -> Result<(), Refusal>
     ensures { Answered (open_tests set_i public.now envelope.now) (number_of result) }
 {
     let set = SetI::numbers();
-    let tested = head::test_head(set, envelope);
-    if !tested.is_done() {
-        return tested;
-    }
+    head::test_head(set, envelope)?;
     let mut digest = [0u8; DIGEST_BYTES];
     hash_message(set, envelope, &mut digest);
     let len = head::length_of(envelope);
@@ -71,15 +65,12 @@ pub(crate) fn test_open(public: &[u8], envelope: &[u8]) -> Answer
     checking::check_digest(public, 2 + len, &digest, signed)
 }
 
-// What comes back with an answer: the team number and the roster's length where nothing was refused, else 0 for both.
-pub(crate) fn opened(answer: Answer, envelope: &[u8]) -> Opened
-    ensures { Comes envelope.now (number_of answer) (number_of result.answer) result.team result.len }
+// The team number and the roster's length that an envelope's head gives.
+pub(crate) fn opened(envelope: &[u8]) -> Opened
+    ensures { result ≡ opened envelope.now }
 {
-    let mut team = 0;
-    let mut len = 0;
-    if answer.is_done() {
-        team = head::team_of(envelope);
-        len = head::length_of(envelope);
+    Opened {
+        team: head::team_of(envelope),
+        len: head::length_of(envelope),
     }
-    Opened { answer, team, len }
 }

@@ -11,31 +11,31 @@ ghost use Rattle.envelope.specs.Promises.{WritesEnvelope};
 
 use crate::head;
 use crate::head::HEAD_BYTES;
-use answers::Answer;
+use answers::Refusal;
 use records::pieces;
 use sets::Numbers;
 
 // The tests of writing, the envelope by its length.
-fn test_write(set: Numbers, roster: &[u8], signature: &[u8], envelope: usize) -> Answer
+fn test_write(set: Numbers, roster: &[u8], signature: &[u8], envelope: usize) -> Result<(), Refusal>
     requires { Known set }
     ensures { Answered (write_tests set roster.now signature.now envelope) (number_of result) }
 {
     if signature.len() != signatures::signature_bytes(set) {
-        return Answer::Length;
+        return Err(Refusal::Length);
     }
     if !head::is_total(set, roster.len(), envelope) {
-        return Answer::Length;
+        return Err(Refusal::Length);
     }
     if !pieces::is_marked(set, 3, signature) {
-        return Answer::Mark;
+        return Err(Refusal::Mark);
     }
     if sets::ROSTER_LIMIT < roster.len() {
-        return Answer::Message;
+        return Err(Refusal::Message);
     }
     if !signatures::z_passes(set, signature) {
-        return Answer::Z;
+        return Err(Refusal::Z);
     }
-    Answer::Done
+    Ok(())
 }
 
 // Writes the team number and L after the mark, two bytes each, low first.
@@ -69,13 +69,11 @@ pub(crate) fn write(
     roster: &[u8],
     signature: &[u8],
     envelope: &mut [u8],
-) -> Answer
+) -> Result<(), Refusal>
     requires { Known set }
     ensures { WritesEnvelope set team roster.now signature.now envelope.old envelope.new (number_of result) }
 {
-    let tested = test_write(set, roster, signature, envelope.len());
-    if tested.is_done() {
-        put_envelope(set, team, roster, signature, envelope);
-    }
-    tested
+    test_write(set, roster, signature, envelope.len())?;
+    put_envelope(set, team, roster, signature, envelope);
+    Ok(())
 }

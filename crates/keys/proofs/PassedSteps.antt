@@ -1,27 +1,25 @@
 -- What the tests of key making say once every one has passed: what writing the two records asks. Assumes nothing.
 use mathlib.Core.Path.{◌≡◌, refl, ◌∙◌}
-use mathlib.Core.Bool.{Bool, true}
 use mathlib.Core.List.{List}
 use Prim.Native.Nat.{ℕ}
-use lib.Dec.{eqb}
 use lib.ListN.{length}
 use borrow.Author.Tests.{eqb-true}
 use Rattle.whole.specs.Every.{every}
 use Rattle.answers.specs.Tests.{Answered, AllPass}
-use Rattle.answers.specs.TestLaws.{all_passed}
+use Rattle.answers.specs.ResultLaws.{passed_ok}
 use Rattle.sets.specs.declared.Numbers.{Numbers}
 use Rattle.sets.specs.Known.{Known, known_good}
 use Rattle.records.specs.Secret.{byte_tests}
 use Rattle.keys.specs.Asks.{ForPublic, ForSecret}
 use Rattle.keys.specs.Key.{secrets_tests, make_key_tests}
 
-module _ {set : Numbers} {s e seed_a : List ℕ} (seed_y public secret : List ℕ) {number : ℕ} {done : Bool} (known : Known set)
-    (a : Answered (make_key_tests set s e seed_a seed_y (length public) (length secret)) number) (d : done ≡ eqb number 0) (h : done ≡ true) where
+module _ {set : Numbers} {s e seed_a : List ℕ} (seed_y public secret : List ℕ) (known : Known set)
+    (a : Answered (make_key_tests set s e seed_a seed_y (length public) (length secret)) 0) where
   -- the public record may have been written since
   pub passed_secret : (public₁ : List ℕ) → length public₁ ≡ length public → ForSecret set s e seed_a seed_y public₁ secret
   unfolding make_key_tests secrets_tests byte_tests AllPass every
   passed_secret public₁ kept =
-      let p = all_passed refl a d h in
+      let p = passed_ok a refl in
       record {
         good = known_good known;
         s_long = eqb-true _ _ p.0;

@@ -11,7 +11,7 @@ ghost use Rattle.sets.specs.Known.{Known};
 ghost use Rattle.sets.specs.SetI.{set_i};
 ghost use Rattle.keys.specs.Promises.{MakesKey};
 
-use answers::Answer;
+use answers::Refusal;
 use sets::{Numbers, SetI};
 
 // Makes a key, with every test first.
@@ -23,16 +23,14 @@ fn make(
     seed_y: &[u8],
     public: &mut [u8],
     secret: &mut [u8],
-) -> Answer
+) -> Result<(), Refusal>
     requires { Known set }
     ensures { MakesKey set s.now e.now seed_a.now seed_y.now public.old public.new secret.old secret.new (number_of result) }
 {
-    let tested = tests::test_inputs(set, s, e, seed_a, seed_y, public.len(), secret.len());
-    if tested.is_done() {
-        public::put_public(set, s, e, seed_a, public);
-        secret::put_secret(set, s, e, seed_a, seed_y, public, secret);
-    }
-    tested
+    tests::test_inputs(set, s, e, seed_a, seed_y, public.len(), secret.len())?;
+    public::put_public(set, s, e, seed_a, public);
+    secret::put_secret(set, s, e, seed_a, seed_y, public, secret);
+    Ok(())
 }
 
 // Set I: makes the public and the secret record of s, e_1..e_k in a row, seed_a and seed_y. On a refusal both stay as they were.
@@ -43,7 +41,7 @@ pub fn make_key(
     seed_y: &[u8],
     public: &mut [u8],
     secret: &mut [u8],
-) -> Answer
+) -> Result<(), Refusal>
     ensures { MakesKey set_i s.now e.now seed_a.now seed_y.now public.old public.new secret.old secret.new (number_of result) }
 {
     make(SetI::numbers(), s, e, seed_a, seed_y, public, secret)

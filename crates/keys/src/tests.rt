@@ -7,7 +7,7 @@ ghost use Rattle.sets.specs.Good.{Good};
 ghost use Rattle.keys.specs.Asks.{LongE};
 ghost use Rattle.keys.specs.Key.{each_e_passes, secrets_tests, make_key_tests};
 
-use answers::Answer;
+use answers::Refusal;
 use sets::{Numbers, SEED_BYTES};
 
 // Whether the h largest of one polynomial sum to at most the bound. Makes the places for them.
@@ -39,23 +39,23 @@ fn each_e_passes(set: Numbers, e: &[u8]) -> bool
 }
 
 // The tests 5, 6 and 7, of s and e_1..e_k.
-pub fn test_secrets(set: Numbers, s: &[u8], e: &[u8]) -> Answer
+pub fn test_secrets(set: Numbers, s: &[u8], e: &[u8]) -> Result<(), Refusal>
     requires { LongE set e.now }
     ensures { Answered (secrets_tests set s.now e.now) (number_of result) }
 {
     if !records::secret::in_byte_range(s) {
-        return Answer::Value;
+        return Err(Refusal::Value);
     }
     if !records::secret::in_byte_range(e) {
-        return Answer::Value;
+        return Err(Refusal::Value);
     }
     if !sum_passes(set, s, set.s) {
-        return Answer::SumS;
+        return Err(Refusal::SumS);
     }
     if !each_e_passes(set, e) {
-        return Answer::SumE;
+        return Err(Refusal::SumE);
     }
-    Answer::Done
+    Ok(())
 }
 
 // The tests of key making, the outputs by their lengths.
@@ -67,27 +67,27 @@ pub(crate) fn test_inputs(
     seed_y: &[u8],
     public: usize,
     secret: usize,
-) -> Answer
+) -> Result<(), Refusal>
     requires { Good set }
     ensures { Answered (make_key_tests set s.now e.now seed_a.now seed_y.now public secret) (number_of result) }
 {
     if s.len() != set.n {
-        return Answer::Length;
+        return Err(Refusal::Length);
     }
     if e.len() != set.k * set.n {
-        return Answer::Length;
+        return Err(Refusal::Length);
     }
     if seed_a.len() != SEED_BYTES {
-        return Answer::Length;
+        return Err(Refusal::Length);
     }
     if seed_y.len() != SEED_BYTES {
-        return Answer::Length;
+        return Err(Refusal::Length);
     }
     if public != records::public::public_bytes(set) {
-        return Answer::Length;
+        return Err(Refusal::Length);
     }
     if secret != records::secret::secret_bytes(set) {
-        return Answer::Length;
+        return Err(Refusal::Length);
     }
     test_secrets(set, s, e)
 }

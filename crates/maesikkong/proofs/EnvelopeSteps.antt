@@ -1,24 +1,30 @@
--- Where the roster starts in the lent envelope. Assumes nothing.
-use mathlib.Core.Path.{◌≡◌, sym, ap, ◌∙◌}
-use mathlib.Core.Bool.{Bool, true, false}
+-- What is handed out of reading or opening an envelope is what they promise. Assumes nothing.
+use mathlib.Core.Path.{◌≡◌, refl, sym, ap, ◌∙◌}
 use mathlib.Core.List.{List}
 use Prim.Native.Nat.{ℕ}
-use lib.Dec.{eqb}
-use borrow.Author.Tests.{eqb-true, eqb-false}
+use Rattle.std.specs.Prelude.{Result, Ok, Err}
+use Rattle.answers.specs.declared.Refusal.{Refusal}
+use Rattle.answers.specs.Answers.{refusal_number, refused, number_of}
 use Rattle.answers.specs.Tests.{Test, after}
-use Rattle.answers.specs.TestLaws.{after_done, after_other}
+use Rattle.answers.specs.TestLaws.{after_other}
 use Rattle.envelope.specs.Envelope.{head_bytes}
-use Rattle.envelope.specs.Promises.{Opens}
-use Rattle.maesikkong.specs.Promises.{OpensAt}
+use Rattle.envelope.specs.declared.Opened.{Opened}
+use Rattle.envelope.specs.Promises.{Opens, opened_team, opened_len}
+use Rattle.maesikkong.specs.Promises.{HandsOut, OpensAt}
 
--- `done` is whether the number is 0
-module _ (number : ℕ) {done : Bool} (e : done ≡ eqb number 0) where
-  pub start_done : done ≡ true → head_bytes ≡ after number head_bytes 0
-  start_done h = sym (after_done head_bytes 0 (eqb-true number 0 (sym e ∙ h)))
+pub handed_ok : (r : Result Opened Refusal) {o : Opened} → r ≡ Ok o → HandsOut r 0 o.team head_bytes o.len
+unfolding after
+handed_ok r e = rw e (record { number_is = refl; team_is = refl; start_is = refl; len_is = refl })
 
-  pub start_refused : done ≡ false → 0 ≡ after number head_bytes 0
-  start_refused h = sym (after_other head_bytes 0 (eqb-false number 0 (sym e ∙ h)))
+pub handed_err : (r : Result Opened Refusal) {refusal : Refusal} {number : ℕ} → r ≡ Err refusal → number ≡ refusal_number refusal → HandsOut r number 0 0 0
+handed_err r {refusal} e n =
+    rw (e, n)
+    (record { number_is = refl; team_is = refl; start_is = sym (after_other head_bytes 0 (refused refusal)); len_is = refl })
 
-pub opens_at : {ts : List Test} {envelope : List ℕ} {answered number team start len : ℕ} → Opens ts envelope answered team len
-    → start ≡ after answered head_bytes 0 → number ≡ answered → OpensAt ts envelope number team start len
-opens_at o s e = record { opens = rw e o; start_is = record { is = s ∙ ap (λ n. after n head_bytes 0) o.answered.is } }
+pub opens_at : {ts : List Test} {envelope : List ℕ} (r : Result Opened Refusal) {number team start len : ℕ}
+    → Opens ts envelope (number_of r) (opened_team r) (opened_len r) → HandsOut r number team start len → OpensAt ts envelope number team start len
+opens_at r o h =
+    record {
+      opens = rw (h.number_is, h.team_is, h.len_is) o;
+      start_is = record { is = h.start_is ∙ ap (λ n. after n head_bytes 0) o.answered.is };
+    }

@@ -1,22 +1,34 @@
 // The envelope: written, read and opened. The roster that comes back is a stretch of the lent envelope, by its start and its length.
-ghost use Rattle.std.specs.Prelude.{◌≡◌};
-ghost use Rattle.answers.specs.Answers.{number_of};
-ghost use Rattle.answers.specs.Tests.{after};
 ghost use Rattle.sets.specs.SetI.{set_i};
-ghost use Rattle.envelope.specs.Envelope.{head_bytes, read_tests, open_tests};
+ghost use Rattle.envelope.specs.Envelope.{read_tests, open_tests};
 ghost use Rattle.envelope.specs.Promises.{WritesEnvelope};
-ghost use Rattle.maesikkong.specs.Promises.{OpensAt};
+ghost use Rattle.maesikkong.specs.Promises.{HandsOut, OpensAt};
 
-use answers::Answer;
+use answers::{Refusal, number};
+use envelope::Opened;
 
-// Where the roster starts in an envelope with this answer, 0 on refusal.
-fn start_with(answer: Answer) -> usize
-    ensures { result ≡ after (number_of answer) head_bytes 0 }
+// Hands out what reading or opening gives: the number, and the team number and the roster's start and length, 0 on refusal.
+fn hand_out(
+    answer: Result<Opened, Refusal>,
+    team: &mut u16,
+    roster_start: &mut usize,
+    roster_len: &mut usize,
+) -> u8
+    ensures { HandsOut answer result team.new roster_start.new roster_len.new }
 {
-    if answer.is_done() {
-        envelope::head::HEAD_BYTES
-    } else {
-        0
+    match answer {
+        Ok(opened) => {
+            *team = opened.team;
+            *roster_start = envelope::head::HEAD_BYTES;
+            *roster_len = opened.len;
+            0
+        }
+        Err(refusal) => {
+            *team = 0;
+            *roster_start = 0;
+            *roster_len = 0;
+            u8::from(refusal)
+        }
     }
 }
 
@@ -30,7 +42,7 @@ pub extern "C" fn maesikkong_write_envelope(
 ) -> u8
     ensures { WritesEnvelope set_i team roster.now signature.now envelope.old envelope.new result }
 {
-    envelope::write(team, roster, signature, envelope).number()
+    number(&envelope::write(team, roster, signature, envelope))
 }
 
 // Reads an envelope, without the hash. 0, 1, 2, 3, 9.
@@ -43,12 +55,7 @@ pub extern "C" fn maesikkong_read_envelope(
 ) -> u8
     ensures { OpensAt (read_tests set_i envelope.now) envelope.now result team.new roster_start.new roster_len.new }
 {
-    let read = envelope::read(envelope);
-    let answer = read.answer;
-    *team = read.team;
-    *roster_start = start_with(answer);
-    *roster_len = read.len;
-    answer.number()
+    hand_out(envelope::read(envelope), team, roster_start, roster_len)
 }
 
 // Opens an envelope with the public record. 0, 1, 2, 3, 5, 9, 10, 11.
@@ -62,10 +69,10 @@ pub extern "C" fn maesikkong_open_envelope(
 ) -> u8
     ensures { OpensAt (open_tests set_i public.now envelope.now) envelope.now result team.new roster_start.new roster_len.new }
 {
-    let opened = envelope::open(public, envelope);
-    let answer = opened.answer;
-    *team = opened.team;
-    *roster_start = start_with(answer);
-    *roster_len = opened.len;
-    answer.number()
+    hand_out(
+        envelope::open(public, envelope),
+        team,
+        roster_start,
+        roster_len,
+    )
 }

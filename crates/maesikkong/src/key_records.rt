@@ -2,12 +2,14 @@
 ghost use Rattle.sets.specs.SetI.{set_i};
 ghost use Rattle.records.specs.Promises.{WritesPublic, ReadsPublic, WritesSecret, ReadsSecret};
 
+use answers::number;
+
 // The public record of t, t_1..t_k in a row, and seed_a. 0, 1, 5.
 #[unsafe(no_mangle)]
 pub extern "C" fn maesikkong_write_public(t: &[u32], seed_a: &[u8], public: &mut [u8]) -> u8
     ensures { WritesPublic set_i t.now seed_a.now public.old public.new result }
 {
-    records::write_public(t, seed_a, public).number()
+    number(&records::write_public(t, seed_a, public))
 }
 
 // t, t_1..t_k in a row, and seed_a of a public record. 0, 1, 2, 5.
@@ -15,7 +17,7 @@ pub extern "C" fn maesikkong_write_public(t: &[u32], seed_a: &[u8], public: &mut
 pub extern "C" fn maesikkong_read_public(public: &[u8], t: &mut [u32], seed_a: &mut [u8]) -> u8
     ensures { ReadsPublic set_i public.now t.old t.new seed_a.old seed_a.new result }
 {
-    records::read_public(public, t, seed_a).number()
+    number(&records::read_public(public, t, seed_a))
 }
 
 // The secret record of s, e_1..e_k in a row, seed_a, seed_y and g. 0, 1, 5.
@@ -30,7 +32,7 @@ pub extern "C" fn maesikkong_write_secret(
 ) -> u8
     ensures { WritesSecret set_i s.now e.now seed_a.now seed_y.now g.now secret.old secret.new result }
 {
-    records::write_secret(s, e, seed_a, seed_y, g, secret).number()
+    number(&records::write_secret(s, e, seed_a, seed_y, g, secret))
 }
 
 // s, e_1..e_k in a row, seed_a, seed_y and g of a secret record. 0, 1, 2, 5.
@@ -45,5 +47,5 @@ pub extern "C" fn maesikkong_read_secret(
 ) -> u8
     ensures { ReadsSecret set_i secret.now s.old s.new e.old e.new seed_a.old seed_a.new seed_y.old seed_y.new g.old g.new result }
 {
-    records::read_secret(secret, s, e, seed_a, seed_y, g).number()
+    number(&records::read_secret(secret, s, e, seed_a, seed_y, g))
 }

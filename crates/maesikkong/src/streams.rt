@@ -3,12 +3,14 @@ ghost use Rattle.sets.specs.SetI.{set_i};
 ghost use Rattle.sampling.specs.Promises.{TakesA, TakesY, TakesPositions};
 ghost use Rattle.maesikkong.specs.Promises.{Shakes};
 
+use answers::number;
+
 // Values for a, as many as out has places. 0, 1.
 #[unsafe(no_mangle)]
 pub extern "C" fn maesikkong_take_a(stream: &[u8], out: &mut [u32]) -> u8
     ensures { TakesA set_i stream.now out.old out.new result }
 {
-    sampling::take_a(stream, out).number()
+    number(&sampling::take_a(stream, out))
 }
 
 // Values for y, as many as out has places. 0, 1.
@@ -16,7 +18,7 @@ pub extern "C" fn maesikkong_take_a(stream: &[u8], out: &mut [u32]) -> u8
 pub extern "C" fn maesikkong_take_y(stream: &[u8], out: &mut [i32]) -> u8
     ensures { TakesY set_i stream.now out.old out.new result }
 {
-    sampling::take_y(stream, out).number()
+    number(&sampling::take_y(stream, out))
 }
 
 // Positions with their signs, as many as there are places for both. 0, 1.
@@ -28,7 +30,7 @@ pub extern "C" fn maesikkong_take_positions(
 ) -> u8
     ensures { TakesPositions set_i stream.now positions.old signs.old positions.new signs.new result }
 {
-    sampling::take_positions(stream, positions, signs).number()
+    number(&sampling::take_positions(stream, positions, signs))
 }
 
 // SHAKE256 of the message, as many bytes as out has places. 0.

@@ -7,7 +7,7 @@ use Prim.Native.Nat.{ℕ, ◌+◌, ◌*◌, ◌-◌, ◌≤◌, ◌<◌, zero-le
 use native.Mathlib.Nat.{le_antisymm, mul_comm, add-sub_cancel_left}
 use native.Mathlib.Numerals.{add-one}
 use native.Mathlib.Omega.{arith}
-use lib.Dec.{eqb, ltb}
+use lib.Dec.{ltb}
 use lib.ListN.{length, get_or, take, drop, length-drop, length-append}
 use lib.Seq.{length-take-le}
 use borrow.Author.Tests.{lt-ltb, le-ltb, eqb-true}
@@ -20,8 +20,9 @@ use Rattle.whole.specs.RowFill.{Filling, filling_none, filling_length, filling_f
 use Rattle.whole.specs.Table.{joined}
 use Rattle.whole.specs.TableLaws.{joined_length}
 use Rattle.whole.specs.Written.{lent_rest, put_rest, Written, written_kept, written_length, written_more}
+use Rattle.answers.specs.ResultLaws.{passed_ok}
 use Rattle.answers.specs.Tests.{Answered, AllPass}
-use Rattle.answers.specs.TestLaws.{all_passed, holds, misses}
+use Rattle.answers.specs.TestLaws.{holds, misses}
 use Rattle.packing.specs.Digits.{bytes_for, packed, unpacked, Packs, Unpacks}
 use Rattle.sets.specs.declared.Numbers.{Numbers}
 use Rattle.sets.specs.Good.{Good}
@@ -237,11 +238,11 @@ module _ {s : Numbers} {t old public : List ℕ} {i : ℕ} (r : PacksAllT s t ol
 -- ---- reading
 
 -- a record that is read has its length, and so have the outputs
-pub read_takes : {s : Numbers} {public t seed_a : List ℕ} {number : ℕ} {done : Bool} → Known s
-    → Answered (read_public_tests s public (length t) (length seed_a)) number → done ≡ eqb number 0 → done ≡ true → TakesPublic s public t seed_a
+pub read_takes : {s : Numbers} {public t seed_a : List ℕ} → Known s
+    → Answered (read_public_tests s public (length t) (length seed_a)) 0 → TakesPublic s public t seed_a
 unfolding read_public_tests public_tests AllPass every
-read_takes k a e h =
-    let p = all_passed refl a e h in
+read_takes k a =
+    let p = passed_ok a refl in
     record {
       good = known_good k;
       long = eqb-true _ _ p.1.1.0;
@@ -272,11 +273,11 @@ module _ {s : Numbers} {t seed_a old : List ℕ} (p : PutsPublic s t seed_a old)
       standing_all w₂ (omega (arith, p.long)) ∙ append_assoc (mark s 1) (packed_t s t) seed_a
 
 -- values and a record that pass the tests
-pub write_puts : {s : Numbers} {t seed_a public : List ℕ} {number : ℕ} {done : Bool} → Good s
-    → Answered (write_public_tests s t seed_a (length public)) number → done ≡ eqb number 0 → done ≡ true → PutsPublic s t seed_a public
+pub write_puts : {s : Numbers} {t seed_a public : List ℕ} → Good s
+    → Answered (write_public_tests s t seed_a (length public)) 0 → PutsPublic s t seed_a public
 unfolding write_public_tests AllPass every
-write_puts {s} {t} good a e h =
-    let p = all_passed refl a e h in
+write_puts {s} {t} good a =
+    let p = passed_ok a refl in
     record {
       good = good;
       polynomials = eqb-true _ _ p.0;

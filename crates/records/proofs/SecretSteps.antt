@@ -1,7 +1,7 @@
 -- The steps of reading and writing a secret record.
 -- Assumes nothing.
 use mathlib.Core.Path.{◌≡◌, refl, ap, ◌∙◌}
-use mathlib.Core.Bool.{Bool, true, false, not}
+use mathlib.Core.Bool.{true, false, not}
 use mathlib.Core.List.{List, ◌++◌, append_assoc}
 use Prim.Native.Nat.{ℕ, ◌+◌, ◌*◌, ◌-◌, ◌≤◌, ◌<◌}
 use native.Mathlib.Omega.{arith}
@@ -10,8 +10,8 @@ use lib.ListN.{length, get_or, take, drop}
 use borrow.Author.Tests.{eq-eqb, ne_eqb, eqb-true}
 use Rattle.whole.specs.Every.{every}
 use Rattle.whole.specs.EveryLaws.{Passing, passing_more, passing_fails, passing_all}
+use Rattle.answers.specs.ResultLaws.{passed_ok}
 use Rattle.answers.specs.Tests.{Answered, AllPass}
-use Rattle.answers.specs.TestLaws.{all_passed}
 use Rattle.sets.specs.declared.Numbers.{Numbers}
 use Rattle.sets.specs.Good.{Good}
 use Rattle.sets.specs.Limits.{seed_bytes}
@@ -47,12 +47,11 @@ bytes_lent set secret e f a = rw (s_lent set secret e f, e_lent set secret e f) 
 -- ---- reading
 
 -- a record that is read has its length, and so have the outputs
-pub read_takes : {set : Numbers} {secret s e seed_a seed_y g : List ℕ} {number : ℕ} {done : Bool} → Good set
-    → Answered (read_secret_tests set secret (length s) (length e) (length seed_a) (length seed_y) (length g)) number
-    → done ≡ eqb number 0 → done ≡ true → SecretPlaces set secret s e seed_a seed_y g
+pub read_takes : {set : Numbers} {secret s e seed_a seed_y g : List ℕ} → Good set
+    → Answered (read_secret_tests set secret (length s) (length e) (length seed_a) (length seed_y) (length g)) 0 → SecretPlaces set secret s e seed_a seed_y g
 unfolding read_secret_tests secret_tests byte_tests AllPass every
-read_takes good a e h =
-    let p = all_passed refl a e h in
+read_takes good a =
+    let p = passed_ok a refl in
     record {
       good = good;
       long = eqb-true _ _ p.1.1.1.1.1.0;
@@ -131,12 +130,11 @@ put_is {set} {s} {e} {seed_a} {seed_y} {g} {old} p a b h c d =
     d ∙ ap (λ (l : List ℕ). l ++ (seed_a ++ (seed_y ++ g))) (standing_take w₂) ∙ simp append_assoc
 
 -- values and a record that pass the tests
-pub write_puts : {set : Numbers} {s e seed_a seed_y g secret : List ℕ} {number : ℕ} {done : Bool} → Good set
-    → Answered (write_secret_tests set s e seed_a seed_y g (length secret)) number → done ≡ eqb number 0 → done ≡ true
-    → SecretPlaces set secret s e seed_a seed_y g
+pub write_puts : {set : Numbers} {s e seed_a seed_y g secret : List ℕ} → Good set
+    → Answered (write_secret_tests set s e seed_a seed_y g (length secret)) 0 → SecretPlaces set secret s e seed_a seed_y g
 unfolding write_secret_tests byte_tests AllPass every
-write_puts good a e h =
-    let p = all_passed refl a e h in
+write_puts good a =
+    let p = passed_ok a refl in
     record {
       good = good;
       lengths =

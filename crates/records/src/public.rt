@@ -12,7 +12,7 @@ ghost use Rattle.records.specs.Asks.{StartsT, ReadsT, PacksT, ScansT, LongPublic
 ghost use Rattle.records.specs.Promises.{TookPublic, WritesPublic, ReadsPublic};
 
 use crate::pieces;
-use answers::Answer;
+use answers::Refusal;
 use sets::{Numbers, SEED_BYTES, SetI};
 
 // The bytes of one packed t_i.
@@ -130,20 +130,20 @@ pub fn t_passes(set: Numbers, public: &[u8]) -> bool
 }
 
 // The tests of a lent public record: its length, its mark, the range of t.
-fn test_public(set: Numbers, public: &[u8]) -> Answer
+fn test_public(set: Numbers, public: &[u8]) -> Result<(), Refusal>
     requires { Known set }
     ensures { Answered (public_tests set public.now) (number_of result) }
 {
     if public.len() != public_bytes(set) {
-        return Answer::Length;
+        return Err(Refusal::Length);
     }
     if !pieces::is_marked(set, 1, public) {
-        return Answer::Mark;
+        return Err(Refusal::Mark);
     }
     if !t_passes(set, public) {
-        return Answer::Value;
+        return Err(Refusal::Value);
     }
-    Answer::Done
+    Ok(())
 }
 
 // t = t_1..t_k of the record, in a row.
@@ -187,47 +187,50 @@ fn put(set: Numbers, t: &[u32], seed_a: &[u8], public: &mut [u8])
 }
 
 // The tests of writing a record, the output by its length.
-fn test_write(set: Numbers, t: &[u32], seed_a: &[u8], public: usize) -> Answer
+fn test_write(set: Numbers, t: &[u32], seed_a: &[u8], public: usize) -> Result<(), Refusal>
     requires { Good set }
     ensures { Answered (write_public_tests set t.now seed_a.now public) (number_of result) }
 {
     if t.len() != set.k * set.n {
-        return Answer::Length;
+        return Err(Refusal::Length);
     }
     if seed_a.len() != SEED_BYTES {
-        return Answer::Length;
+        return Err(Refusal::Length);
     }
     if public != public_bytes(set) {
-        return Answer::Length;
+        return Err(Refusal::Length);
     }
     if !t_in_range(set, t) {
-        return Answer::Value;
+        return Err(Refusal::Value);
     }
-    Answer::Done
+    Ok(())
 }
 
 // Tests t, seed_a and the record's length, and writes the record.
-pub(crate) fn write(set: Numbers, t: &[u32], seed_a: &[u8], public: &mut [u8]) -> Answer
+pub(crate) fn write(
+    set: Numbers,
+    t: &[u32],
+    seed_a: &[u8],
+    public: &mut [u8],
+) -> Result<(), Refusal>
     requires { Good set }
     ensures { WritesPublic set t.now seed_a.now public.old public.new (number_of result) }
 {
-    let tested = test_write(set, t, seed_a, public.len());
-    if tested.is_done() {
-        put(set, t, seed_a, public);
-    }
-    tested
+    test_write(set, t, seed_a, public.len())?;
+    put(set, t, seed_a, public);
+    Ok(())
 }
 
 // The tests of reading a record into t and seed_a of these lengths.
-fn test_read(set: Numbers, public: &[u8], t: usize, seed_a: usize) -> Answer
+fn test_read(set: Numbers, public: &[u8], t: usize, seed_a: usize) -> Result<(), Refusal>
     requires { Known set }
     ensures { Answered (read_public_tests set public.now t seed_a) (number_of result) }
 {
     if t != set.k * set.n {
-        return Answer::Length;
+        return Err(Refusal::Length);
     }
     if seed_a != SEED_BYTES {
-        return Answer::Length;
+        return Err(Refusal::Length);
     }
     test_public(set, public)
 }
@@ -242,13 +245,16 @@ fn take_out(set: Numbers, public: &[u8], t: &mut [u32], seed_a: &mut [u8])
 }
 
 // Tests the record and the lengths of t and seed_a, and reads the record into them.
-pub(crate) fn read(set: Numbers, public: &[u8], t: &mut [u32], seed_a: &mut [u8]) -> Answer
+pub(crate) fn read(
+    set: Numbers,
+    public: &[u8],
+    t: &mut [u32],
+    seed_a: &mut [u8],
+) -> Result<(), Refusal>
     requires { Known set }
     ensures { ReadsPublic set public.now t.old t.new seed_a.old seed_a.new (number_of result) }
 {
-    let tested = test_read(set, public, t.len(), seed_a.len());
-    if tested.is_done() {
-        take_out(set, public, t, seed_a);
-    }
-    tested
+    test_read(set, public, t.len(), seed_a.len())?;
+    take_out(set, public, t, seed_a);
+    Ok(())
 }

@@ -10,7 +10,7 @@ ghost use Rattle.records.specs.Asks.{SecretPlaces, TailPlaces};
 ghost use Rattle.records.specs.Promises.{TookTail, TookSecret, WritesSecret, ReadsSecret};
 
 use crate::pieces;
-use answers::Answer;
+use answers::Refusal;
 use sets::{DIGEST_BYTES, Numbers, SEED_BYTES};
 
 // Where e_1 starts: after the mark and s.
@@ -68,16 +68,16 @@ pub fn in_byte_range(bytes: &[u8]) -> bool
 }
 
 // The tests of s and e_1..e_k: no byte is −128.
-fn test_bytes(s: &[u8], e: &[u8]) -> Answer
+fn test_bytes(s: &[u8], e: &[u8]) -> Result<(), Refusal>
     ensures { Answered (byte_tests s.now e.now) (number_of result) }
 {
     if !in_byte_range(s) {
-        return Answer::Value;
+        return Err(Refusal::Value);
     }
     if !in_byte_range(e) {
-        return Answer::Value;
+        return Err(Refusal::Value);
     }
-    Answer::Done
+    Ok(())
 }
 
 // Writes seed_a, seed_y and g to the end of the record. What stands before them stays.
@@ -118,27 +118,27 @@ fn test_write(
     seed_y: &[u8],
     g: &[u8],
     secret: usize,
-) -> Answer
+) -> Result<(), Refusal>
     requires { Good set }
     ensures { Answered (write_secret_tests set s.now e.now seed_a.now seed_y.now g.now secret) (number_of result) }
 {
     if s.len() != set.n {
-        return Answer::Length;
+        return Err(Refusal::Length);
     }
     if e.len() != set.k * set.n {
-        return Answer::Length;
+        return Err(Refusal::Length);
     }
     if seed_a.len() != SEED_BYTES {
-        return Answer::Length;
+        return Err(Refusal::Length);
     }
     if seed_y.len() != SEED_BYTES {
-        return Answer::Length;
+        return Err(Refusal::Length);
     }
     if g.len() != DIGEST_BYTES {
-        return Answer::Length;
+        return Err(Refusal::Length);
     }
     if secret != secret_bytes(set) {
-        return Answer::Length;
+        return Err(Refusal::Length);
     }
     test_bytes(s, e)
 }
@@ -152,27 +152,25 @@ pub(crate) fn write(
     seed_y: &[u8],
     g: &[u8],
     secret: &mut [u8],
-) -> Answer
+) -> Result<(), Refusal>
     requires { Good set }
     ensures { WritesSecret set s.now e.now seed_a.now seed_y.now g.now secret.old secret.new (number_of result) }
 {
-    let tested = test_write(set, s, e, seed_a, seed_y, g, secret.len());
-    if tested.is_done() {
-        put(set, s, e, seed_a, seed_y, g, secret);
-    }
-    tested
+    test_write(set, s, e, seed_a, seed_y, g, secret.len())?;
+    put(set, s, e, seed_a, seed_y, g, secret);
+    Ok(())
 }
 
 // The tests of a lent secret record: its length, its mark, the range of s and e.
-fn test_secret(set: Numbers, secret: &[u8]) -> Answer
+fn test_secret(set: Numbers, secret: &[u8]) -> Result<(), Refusal>
     requires { Good set }
     ensures { Answered (secret_tests set secret.now) (number_of result) }
 {
     if secret.len() != secret_bytes(set) {
-        return Answer::Length;
+        return Err(Refusal::Length);
     }
     if !pieces::is_marked(set, 2, secret) {
-        return Answer::Mark;
+        return Err(Refusal::Mark);
     }
     let middle = e_start(set);
     let end = seed_a_start(set);
@@ -188,24 +186,24 @@ fn test_read(
     seed_a: usize,
     seed_y: usize,
     g: usize,
-) -> Answer
+) -> Result<(), Refusal>
     requires { Good set }
     ensures { Answered (read_secret_tests set secret.now s e seed_a seed_y g) (number_of result) }
 {
     if s != set.n {
-        return Answer::Length;
+        return Err(Refusal::Length);
     }
     if e != set.k * set.n {
-        return Answer::Length;
+        return Err(Refusal::Length);
     }
     if seed_a != SEED_BYTES {
-        return Answer::Length;
+        return Err(Refusal::Length);
     }
     if seed_y != SEED_BYTES {
-        return Answer::Length;
+        return Err(Refusal::Length);
     }
     if g != DIGEST_BYTES {
-        return Answer::Length;
+        return Err(Refusal::Length);
     }
     test_secret(set, secret)
 }
@@ -247,11 +245,11 @@ pub(crate) fn read(
     seed_a: &mut [u8],
     seed_y: &mut [u8],
     g: &mut [u8],
-) -> Answer
+) -> Result<(), Refusal>
     requires { Good set }
     ensures { ReadsSecret set secret.now s.old s.new e.old e.new seed_a.old seed_a.new seed_y.old seed_y.new g.old g.new (number_of result) }
 {
-    let tested = test_read(
+    test_read(
         set,
         secret,
         s.len(),
@@ -259,9 +257,7 @@ pub(crate) fn read(
         seed_a.len(),
         seed_y.len(),
         g.len(),
-    );
-    if tested.is_done() {
-        take_out(set, secret, s, e, seed_a, seed_y, g);
-    }
-    tested
+    )?;
+    take_out(set, secret, s, e, seed_a, seed_y, g);
+    Ok(())
 }

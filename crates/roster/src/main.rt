@@ -5,15 +5,17 @@
 
 ghost use Rattle.std.specs.Prelude.{take};
 ghost use Rattle.answers.specs.Answers.{number_of};
+ghost use Rattle.envelope.specs.Promises.{opened_team, opened_len};
 ghost use Rattle.roster.specs.Held.{Buffered, OpensWhole};
 
+use answers::Refusal;
 use envelope::Opened;
 
 // Opens what the buffer holds of the input, its first n bytes. If they are the input's first `buffer_bytes`, or all that it has, what comes
 // back is that of the whole input.
-fn open_held(buffer: &[u8], n: usize) -> Opened
+fn open_held(buffer: &[u8], n: usize) -> Result<Opened, Refusal>
     requires { Buffered buffer.now n }
-    ensures { OpensWhole (take n buffer.now) (number_of result.answer) result.team result.len }
+    ensures { OpensWhole (take n buffer.now) (number_of result) (opened_team result) (opened_len result) }
 {
     envelope::open_input(&buffer[..n])
 }
@@ -35,13 +37,10 @@ fn print_roster(team: u16, len: usize) {
 }
 
 // Writes the line of an answer.
-fn print_answer(opened: Opened) {
-    let answer = opened.answer;
-    let number = answer.number();
-    if number == 0 {
-        print_roster(opened.team, opened.len);
-    } else {
-        print_refused(number);
+fn print_answer(opened: Result<Opened, Refusal>) {
+    match opened {
+        Ok(opened) => print_roster(opened.team, opened.len),
+        Err(refusal) => print_refused(u8::from(refusal)),
     }
 }
 

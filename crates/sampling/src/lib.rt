@@ -18,7 +18,7 @@ ghost use Rattle.sampling.specs.Asks.{Reads, TakeValue, ValuesStretch, TakeLess,
 ghost use Rattle.sampling.specs.Promises.{Upward, TakesA, TakesY, TakesPositions};
 ghost use Rattle.sampling.specs.Stored.{Stored, StoredDrawn};
 
-use answers::Answer;
+use answers::Refusal;
 use sets::{Numbers, SetI};
 
 // ---- numbers as bytes
@@ -280,43 +280,48 @@ fn positions_stretch(
 // ---- over a lent stream
 
 // As many values for a as out has places.
-fn lent_a(set: Numbers, stream: &[u8], out: &mut [u32]) -> Answer
+fn lent_a(set: Numbers, stream: &[u8], out: &mut [u32]) -> Result<(), Refusal>
     requires { Good set }
     ensures { TakesA set stream.now out.old out.new (number_of result) }
 {
     if stream.len() / 4 < out.len() {
-        return Answer::Length;
+        return Err(Refusal::Length);
     }
     values_stretch(stream, set.t_bits, set.q, 0, out.len(), out, 0);
-    Answer::Done
+    Ok(())
 }
 
 // As many values for y as out has places, each less b.
-fn lent_y(set: Numbers, stream: &[u8], out: &mut [i32]) -> Answer
+fn lent_y(set: Numbers, stream: &[u8], out: &mut [i32]) -> Result<(), Refusal>
     requires { Good set }
     ensures { TakesY set stream.now out.old out.new (number_of result) }
 {
     if stream.len() / 3 < out.len() {
-        return Answer::Length;
+        return Err(Refusal::Length);
     }
     less_stretch(stream, set.z_bits, set.b, 0, out, 0);
-    Answer::Done
+    Ok(())
 }
 
 // As many positions with signs as there are places.
-fn lent_positions(set: Numbers, stream: &[u8], positions: &mut [u16], signs: &mut [i8]) -> Answer
+fn lent_positions(
+    set: Numbers,
+    stream: &[u8],
+    positions: &mut [u16],
+    signs: &mut [i8],
+) -> Result<(), Refusal>
     requires { Good set }
     ensures { TakesPositions set stream.now positions.old signs.old positions.new signs.new (number_of result) }
 {
     let need = positions.len();
     if signs.len() != need {
-        return Answer::Length;
+        return Err(Refusal::Length);
     }
     if stream.len() / 3 < need {
-        return Answer::Length;
+        return Err(Refusal::Length);
     }
     if set.n < need {
-        return Answer::Length;
+        return Err(Refusal::Length);
     }
     positions_stretch(
         stream,
@@ -327,25 +332,25 @@ fn lent_positions(set: Numbers, stream: &[u8], positions: &mut [u16], signs: &mu
         signs,
         0,
     );
-    Answer::Done
+    Ok(())
 }
 
 // Values for a from a lent stream, as many as out has places: candidates of 4 bytes, low 29 bits, below q.
-pub fn take_a(stream: &[u8], out: &mut [u32]) -> Answer
+pub fn take_a(stream: &[u8], out: &mut [u32]) -> Result<(), Refusal>
     ensures { TakesA set_i stream.now out.old out.new (number_of result) }
 {
     lent_a(SetI::numbers(), stream, out)
 }
 
 // Values for y from a lent stream, as many as out has places: candidates of 3 bytes, low 20 bits, from 0 to 2B, each less B.
-pub fn take_y(stream: &[u8], out: &mut [i32]) -> Answer
+pub fn take_y(stream: &[u8], out: &mut [i32]) -> Result<(), Refusal>
     ensures { TakesY set_i stream.now out.old out.new (number_of result) }
 {
     lent_y(SetI::numbers(), stream, out)
 }
 
 // Positions with signs from a lent stream, as many as there are places: candidates of 3 bytes, low 10 bits.
-pub fn take_positions(stream: &[u8], positions: &mut [u16], signs: &mut [i8]) -> Answer
+pub fn take_positions(stream: &[u8], positions: &mut [u16], signs: &mut [i8]) -> Result<(), Refusal>
     ensures { TakesPositions set_i stream.now positions.old signs.old positions.new signs.new (number_of result) }
 {
     lent_positions(SetI::numbers(), stream, positions, signs)

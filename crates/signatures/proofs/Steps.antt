@@ -1,12 +1,11 @@
 -- The steps of reading and writing a signature record: what each call asks, and what the record, z, c' and the bits of z are after it.
 -- Assumes nothing.
 use mathlib.Core.Path.{◌≡◌, refl, sym, ap, ◌∙◌}
-use mathlib.Core.Bool.{Bool, true}
+use mathlib.Core.Bool.{Bool}
 use mathlib.Core.List.{List, ◌++◌, map, append_assoc}
 use Prim.Native.Nat.{ℕ, ◌+◌, ◌-◌, ◌^◌, ◌<◌}
 use native.Mathlib.Omega.{arith}
 use native.Mathlib.Nat.{add-sub_cancel_left}
-use lib.Dec.{eqb}
 use lib.IntN.{ℤ}
 use lib.ListN.{length, take, drop, length-drop, length-map}
 use borrow.Author.Tests.{eqb-true}
@@ -16,8 +15,8 @@ use Rattle.whole.specs.Written.{written_length, lent_rest, put_rest}
 use Rattle.whole.specs.Every.{every}
 use Rattle.whole.specs.Twos.{signed, twos}
 use Rattle.whole.specs.TwosLaws.{twos_all_below}
+use Rattle.answers.specs.ResultLaws.{passed_ok}
 use Rattle.answers.specs.Tests.{Answered, AllPass}
-use Rattle.answers.specs.TestLaws.{all_passed}
 use Rattle.rounding.specs.Tests.{z_passes}
 use Rattle.packing.specs.Digits.{bytes_for, packed, unpacked, Packs, Unpacks}
 use Rattle.packing.specs.Laws.{packed_length, unpacked_length, unpacked_below}
@@ -142,11 +141,11 @@ module _ {s : Numbers} {z : List ℤ} {c' signature scratch : List ℕ} (p : Wri
     record_is f = f ∙ rw e
 
 -- values and a record that pass the tests
-pub write_puts : {s : Numbers} {z : List ℤ} {c' signature : List ℕ} {number : ℕ} {done : Bool}
-    → Answered (write_signature_tests s z c' (length signature)) number → done ≡ eqb number 0 → done ≡ true → PutsSignature s z c' signature
+pub write_puts : {s : Numbers} {z : List ℤ} {c' signature : List ℕ}
+    → Answered (write_signature_tests s z c' (length signature)) 0 → PutsSignature s z c' signature
 unfolding write_signature_tests AllPass every
-write_puts a e h =
-    let p = all_passed refl a e h in
+write_puts a =
+    let p = passed_ok a refl in
     record {
       z_long = eqb-true _ _ p.0;
       z_inside = p.1.1.1.0;
@@ -157,11 +156,11 @@ write_puts a e h =
 -- ---- taking the values
 
 -- a record that is read has its length, and so have the outputs
-pub read_takes : {s : Numbers} {signature : List ℕ} {z : List ℤ} {c' : List ℕ} {number : ℕ} {done : Bool}
-    → Answered (read_signature_tests s signature (length z) (length c')) number → done ≡ eqb number 0 → done ≡ true → TakesSignature s signature z c'
+pub read_takes : {s : Numbers} {signature : List ℕ} {z : List ℤ} {c' : List ℕ}
+    → Answered (read_signature_tests s signature (length z) (length c')) 0 → TakesSignature s signature z c'
 unfolding read_signature_tests signature_tests AllPass every
-read_takes a e h =
-    let p = all_passed refl a e h in
+read_takes a =
+    let p = passed_ok a refl in
     record {
       signature_long = eqb-true _ _ p.1.1.0;
       z_long = eqb-true _ _ p.0;

@@ -17,7 +17,7 @@ ghost use Rattle.signatures.specs.Signature.{signature_record, z_bits_of, z_of, 
 ghost use Rattle.signatures.specs.Asks.{SizesBits, RangesBits, LongSignature, ScansZ, UnpacksZ, TakesZ, TakesSignature, WritesPieces, WritesChecked, PutsSignature};
 ghost use Rattle.signatures.specs.Promises.{TookSignature, WritesSignature, ReadsSignature};
 
-use answers::Answer;
+use answers::Refusal;
 use packing::twos;
 use records::pieces;
 use sets::{Numbers, SEED_BYTES, SetI};
@@ -139,20 +139,20 @@ pub fn z_passes(set: Numbers, signature: &[u8]) -> bool
 }
 
 // The tests of a lent signature record: its length, its mark, the range of z.
-fn test_signature(set: Numbers, signature: &[u8]) -> Answer
+fn test_signature(set: Numbers, signature: &[u8]) -> Result<(), Refusal>
     requires { Known set }
     ensures { Answered (signature_tests set signature.now) (number_of result) }
 {
     if signature.len() != signature_bytes(set) {
-        return Answer::Length;
+        return Err(Refusal::Length);
     }
     if !pieces::is_marked(set, 3, signature) {
-        return Answer::Mark;
+        return Err(Refusal::Mark);
     }
     if !z_passes(set, signature) {
-        return Answer::Z;
+        return Err(Refusal::Z);
     }
-    Answer::Done
+    Ok(())
 }
 
 // Writes the mark, the bits of each z and c', each after the other.
@@ -199,35 +199,33 @@ fn put(set: Numbers, z: &[i32], c: &[u8], signature: &mut [u8])
 }
 
 // The tests of writing a record, the output by its length.
-fn test_write(set: Numbers, z: &[i32], c: &[u8], signature: usize) -> Answer
+fn test_write(set: Numbers, z: &[i32], c: &[u8], signature: usize) -> Result<(), Refusal>
     requires { Good set }
     ensures { Answered (write_signature_tests set z.now c.now signature) (number_of result) }
 {
     if z.len() != set.n {
-        return Answer::Length;
+        return Err(Refusal::Length);
     }
     if c.len() != SEED_BYTES {
-        return Answer::Length;
+        return Err(Refusal::Length);
     }
     if signature != signature_bytes(set) {
-        return Answer::Length;
+        return Err(Refusal::Length);
     }
     if !z_in_range(set, z) {
-        return Answer::Z;
+        return Err(Refusal::Z);
     }
-    Answer::Done
+    Ok(())
 }
 
 // Tests z, c' and the record's length, and writes the record.
-fn write(set: Numbers, z: &[i32], c: &[u8], signature: &mut [u8]) -> Answer
+fn write(set: Numbers, z: &[i32], c: &[u8], signature: &mut [u8]) -> Result<(), Refusal>
     requires { Known set }
     ensures { WritesSignature set z.now c.now signature.old signature.new (number_of result) }
 {
-    let tested = test_write(set, z, c, signature.len());
-    if tested.is_done() {
-        put(set, z, c, signature);
-    }
-    tested
+    test_write(set, z, c, signature.len())?;
+    put(set, z, c, signature);
+    Ok(())
 }
 
 // z of the record. scratch takes the bits of each z.
@@ -274,40 +272,38 @@ fn take_out(set: Numbers, signature: &[u8], z: &mut [i32], c: &mut [u8])
 }
 
 // The tests of reading a record into z and c' of these lengths.
-fn test_read(set: Numbers, signature: &[u8], z: usize, c: usize) -> Answer
+fn test_read(set: Numbers, signature: &[u8], z: usize, c: usize) -> Result<(), Refusal>
     requires { Known set }
     ensures { Answered (read_signature_tests set signature.now z c) (number_of result) }
 {
     if z != set.n {
-        return Answer::Length;
+        return Err(Refusal::Length);
     }
     if c != SEED_BYTES {
-        return Answer::Length;
+        return Err(Refusal::Length);
     }
     test_signature(set, signature)
 }
 
 // Tests the record and the lengths of z and c', and reads the record into them.
-fn read(set: Numbers, signature: &[u8], z: &mut [i32], c: &mut [u8]) -> Answer
+fn read(set: Numbers, signature: &[u8], z: &mut [i32], c: &mut [u8]) -> Result<(), Refusal>
     requires { Known set }
     ensures { ReadsSignature set signature.now z.old z.new c.old c.new (number_of result) }
 {
-    let tested = test_read(set, signature, z.len(), c.len());
-    if tested.is_done() {
-        take_out(set, signature, z, c);
-    }
-    tested
+    test_read(set, signature, z.len(), c.len())?;
+    take_out(set, signature, z, c);
+    Ok(())
 }
 
 // Set I: writes the record of z and c'.
-pub fn write_signature(z: &[i32], c: &[u8], signature: &mut [u8]) -> Answer
+pub fn write_signature(z: &[i32], c: &[u8], signature: &mut [u8]) -> Result<(), Refusal>
     ensures { WritesSignature set_i z.now c.now signature.old signature.new (number_of result) }
 {
     write(SetI::numbers(), z, c, signature)
 }
 
 // Set I: z and c' of a signature record.
-pub fn read_signature(signature: &[u8], z: &mut [i32], c: &mut [u8]) -> Answer
+pub fn read_signature(signature: &[u8], z: &mut [i32], c: &mut [u8]) -> Result<(), Refusal>
     ensures { ReadsSignature set_i signature.now z.old z.new c.old c.new (number_of result) }
 {
     read(SetI::numbers(), signature, z, c)

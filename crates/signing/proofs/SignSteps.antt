@@ -1,16 +1,20 @@
 -- Signing after its tests, a message in two pieces, and what the tests say. Assumes nothing.
 use mathlib.Core.Path.{◌≡◌, refl, sym, ◌∙◌}
-use mathlib.Core.Bool.{Bool, true, false, not}
+use mathlib.Core.Bool.{false}
 use mathlib.Core.List.{List, ◌++◌}
 use Prim.Native.Nat.{ℕ, zero, suc, ◌+◌, ◌*◌, ◌-◌, ◌≤◌, ◌<◌}
 use native.Mathlib.Omega.{arith}
-use lib.Dec.{eqb, leb}
+use lib.Dec.{leb}
 use lib.ListN.{length, take, drop, length-append}
-use borrow.Author.Tests.{eqb-true, eqb-false, leb-true, lt-leb, not-true, not-false}
+use borrow.Author.Tests.{eqb-true, leb-true, lt-leb}
+use Rattle.std.specs.Prelude.{Result, IsErrAnd}
+use Rattle.std.proofs.lemmas.Result.{err_from_is_err_and}
 use Rattle.whole.specs.Every.{every}
 use Rattle.whole.specs.TestsAlike.{leb_alike}
 use Rattle.answers.specs.Tests.{answer, Answered, AllPass}
-use Rattle.answers.specs.TestLaws.{all_passed}
+use Rattle.answers.specs.declared.Refusal.{Refusal}
+use Rattle.answers.specs.Answers.{refusal_number, refused, number_of}
+use Rattle.answers.specs.ResultLaws.{passed_ok}
 use Rattle.sets.specs.declared.Numbers.{Numbers}
 use Rattle.sets.specs.Good.{Good}
 use Rattle.sets.specs.SetI.{set_i}
@@ -23,7 +27,7 @@ use Rattle.keys.specs.Key.{secrets_tests}
 use Rattle.attempts.specs.Attempt.{key_of, attempt}
 use Rattle.signing.specs.Search.{search}
 use Rattle.signing.specs.Sign.{begin_tests, sign_tests, sign_search}
-use Rattle.signing.specs.Promises.{Hashed, Gives, Signs}
+use Rattle.signing.specs.Promises.{Hashed, Gives, Signs, counter_of}
 use Rattle.signing.specs.Asks.{SearchesKey}
 
 -- ---- s and e_1..e_k of a secret record
@@ -72,30 +76,29 @@ joined_length front rest = sym (length-append front rest)
 
 -- ---- the tests' answer, for a message of so many bytes
 
-module _ (set : Numbers) (secret r old : List ℕ) (budget messageLength : ℕ) {number : ℕ} {done : Bool}
-    (t : Answered (sign_tests set secret messageLength (length r) budget (length old)) number) (e : done ≡ eqb number 0) where
+module _ (set : Numbers) (secret r old : List ℕ) (budget messageLength : ℕ) where
   module _ (message : List ℕ) (long : messageLength ≡ length message) where
-    number_is : number ≡ answer (sign_tests set secret (length message) (length r) budget (length old))
-    number_is = rw (← long) t.is
-
     -- a test does not pass
-    pub sign_refused : not done ≡ true → Signs set secret message r budget old old number 0
-    sign_refused h = go number number_is (eqb-false number 0 (sym e ∙ not-true done h))
+    pub sign_refused : (refusal : Refusal) → Answered (sign_tests set secret messageLength (length r) budget (length old)) (refusal_number refusal)
+        → (signed : Result ℕ Refusal) → IsErrAnd signed (λ other. other ≡ refusal) → Signs set secret message r budget old old (number_of signed) (counter_of signed)
+    sign_refused refusal t signed e =
+        let p = err_from_is_err_and signed e in
+        rw (p.1, p.2) (go (refusal_number refusal) (refused refusal) (rw (← long) t.is))
       where
-        go : (n : ℕ) → n ≡ answer (sign_tests set secret (length message) (length r) budget (length old)) → (n ≡ 0 → ⊥)
+        go : (n : ℕ) → (n ≡ 0 → ⊥) → n ≡ answer (sign_tests set secret (length message) (length r) budget (length old))
             → Signs set secret message r budget old old n 0
-        go zero f k = absurd (k refl)
-        go (suc n) f k = rw (← f) (record { number_is = refl; counter_is = refl; signature_is = refl })
+        go zero k f = absurd (k refl)
+        go (suc n) k f = rw (← f) (record { number_is = refl; counter_is = refl; signature_is = refl })
 
     -- every test passes
-    pub sign_goes_on : not done ≡ false → {new : List ℕ} {n counter : ℕ} → Gives set 0 (sign_search set secret message r budget) old new n counter
-        → Signs set secret message r budget old new n counter
-    sign_goes_on h g = rw (← sym (eqb-true number 0 (sym e ∙ not-false done h)) ∙ number_is) g
+    pub sign_goes_on : Answered (sign_tests set secret messageLength (length r) budget (length old)) 0 → {new : List ℕ} {n counter : ℕ}
+        → Gives set 0 (sign_search set secret message r budget) old new n counter → Signs set secret message r budget old new n counter
+    sign_goes_on t g = rw (← long, ← t.is) g
 
-  pub search_asked : not done ≡ false → Good set → SearchesKey set secret budget old
+  pub search_asked : Answered (sign_tests set secret messageLength (length r) budget (length old)) 0 → Good set → SearchesKey set secret budget old
   unfolding sign_tests begin_tests secrets_tests byte_tests AllPass every
-  search_asked h good =
-      let p = all_passed refl t e (not-false done h) in
+  search_asked t good =
+      let p = passed_ok t refl in
       record {
         whole = record { good = good; long = eqb-true _ _ p.1.0 };
         few = leb-true _ _ p.1.1.1.1.1.1.0;

@@ -6,7 +6,7 @@ ghost use Rattle.sets.specs.Good.{Good};
 ghost use Rattle.sets.specs.Limits.{message_limit};
 ghost use Rattle.signing.specs.Sign.{begin_tests, sign_tests};
 
-use answers::Answer;
+use answers::Refusal;
 use sets::{Numbers, SEED_BYTES};
 
 // Whether a message in two pieces of so many bytes is within the limit, by a difference: no sum is made that could leave a word.
@@ -28,27 +28,27 @@ fn test_begin(
     rest: usize,
     r: usize,
     budget: u32,
-) -> Answer
+) -> Result<(), Refusal>
     requires { Good set }
     ensures { Answered (begin_tests set secret.now (front + rest) r budget) (number_of result) }
 {
     if secret.len() != records::secret::secret_bytes(set) {
-        return Answer::Length;
+        return Err(Refusal::Length);
     }
     if r != SEED_BYTES {
-        return Answer::Length;
+        return Err(Refusal::Length);
     }
     if !records::pieces::is_marked(set, 2, secret) {
-        return Answer::Mark;
+        return Err(Refusal::Mark);
     }
     if !is_short(front, rest) {
-        return Answer::Message;
+        return Err(Refusal::Message);
     }
     if budget < 1 {
-        return Answer::Budget;
+        return Err(Refusal::Budget);
     }
     if sets::BUDGET_LIMIT < budget {
-        return Answer::Budget;
+        return Err(Refusal::Budget);
     }
     let middle = records::secret::e_start(set);
     let end = records::secret::seed_a_start(set);
@@ -64,12 +64,12 @@ pub(crate) fn test_inputs(
     r: usize,
     budget: u32,
     signature: usize,
-) -> Answer
+) -> Result<(), Refusal>
     requires { Good set }
     ensures { Answered (sign_tests set secret.now (front + rest) r budget signature) (number_of result) }
 {
     if signature != signatures::signature_bytes(set) {
-        return Answer::Length;
+        return Err(Refusal::Length);
     }
     test_begin(set, secret, front, rest, r, budget)
 }

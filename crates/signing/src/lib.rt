@@ -1,4 +1,5 @@
-// Signing, Algorithm 2: the tests of its inputs, the search for the smallest counter that passes, and the entries for set I.
+// Signing, Algorithm 2: the tests of its inputs, the search for the smallest counter that passes, and the entries for set I. What comes back
+// is the counter of the attempt that signed.
 #![tactic(auto)]
 
 mod inputs;
@@ -11,19 +12,12 @@ ghost use Rattle.sets.specs.SetI.{set_i};
 ghost use Rattle.sampling.specs.Streams.{roster_message};
 ghost use Rattle.attempts.specs.Asks.{Whole};
 ghost use Rattle.signing.specs.Sign.{sign_search};
-ghost use Rattle.signing.specs.Promises.{Hashed, Gives, Signs};
+ghost use Rattle.signing.specs.Promises.{Hashed, Gives, Signs, counter_of};
 ghost use Rattle.signing.specs.Asks.{SearchesKey};
 
-use answers::Answer;
+use answers::Refusal;
 use search::search_key;
 use sets::{DIGEST_BYTES, Numbers, SEED_BYTES, SetI};
-
-// What signing answers, and the counter of the attempt that signed, 0 on refusal.
-#[derive(Drop)]
-pub struct Signed {
-    pub answer: Answer,
-    pub counter: u16,
-}
 
 // G of a message in two pieces, and rand of the secret record's seed_y, r and that digest.
 fn hash_message(
@@ -53,10 +47,10 @@ fn sign_tested(
     r: &[u8],
     budget: u32,
     signature: &mut [u8],
-) -> Signed
+) -> Result<u16, Refusal>
     requires known { Known set }
     requires searches_key { SearchesKey set secret.now budget signature.old }
-    ensures { Gives set 0 (sign_search set secret.now (front.now ++ rest.now) r.now budget) signature.old signature.new (number_of result.answer) result.counter }
+    ensures { Gives set 0 (sign_search set secret.now (front.now ++ rest.now) r.now budget) signature.old signature.new (number_of result) (counter_of result) }
 {
     let mut digest = [0u8; DIGEST_BYTES];
     let mut rand = [0u8; SEED_BYTES];
@@ -73,11 +67,11 @@ fn sign_in(
     r: &[u8],
     budget: u32,
     signature: &mut [u8],
-) -> Signed
+) -> Result<u16, Refusal>
     requires { Known set }
-    ensures { Signs set secret.now (front.now ++ rest.now) r.now budget signature.old signature.new (number_of result.answer) result.counter }
+    ensures { Signs set secret.now (front.now ++ rest.now) r.now budget signature.old signature.new (number_of result) (counter_of result) }
 {
-    let tested = inputs::test_inputs(
+    inputs::test_inputs(
         set,
         secret,
         front.len(),
@@ -85,19 +79,19 @@ fn sign_in(
         r.len(),
         budget,
         signature.len(),
-    );
-    if !tested.is_done() {
-        return Signed {
-            answer: tested,
-            counter: 0,
-        };
-    }
+    )?;
     sign_tested(set, secret, front, rest, r, budget, signature)
 }
 
 // Set I: signs the message with the secret record and r. On a refusal the signature stays as it was.
-pub fn sign(secret: &[u8], message: &[u8], r: &[u8], budget: u32, signature: &mut [u8]) -> Signed
-    ensures { Signs set_i secret.now message.now r.now budget signature.old signature.new (number_of result.answer) result.counter }
+pub fn sign(
+    secret: &[u8],
+    message: &[u8],
+    r: &[u8],
+    budget: u32,
+    signature: &mut [u8],
+) -> Result<u16, Refusal>
+    ensures { Signs set_i secret.now message.now r.now budget signature.old signature.new (number_of result) (counter_of result) }
 {
     sign_in(
         SetI::numbers(),
@@ -119,8 +113,8 @@ pub fn sign_roster(
     r: &[u8],
     budget: u32,
     signature: &mut [u8],
-) -> Signed
-    ensures { Signs set_i secret.now (roster_message team roster.now) r.now budget signature.old signature.new (number_of result.answer) result.counter }
+) -> Result<u16, Refusal>
+    ensures { Signs set_i secret.now (roster_message team roster.now) r.now budget signature.old signature.new (number_of result) (counter_of result) }
 {
     let front = sampling::two_bytes(team);
     sign_in(

@@ -5,11 +5,10 @@ ghost use Rattle.sets.specs.Known.{Known};
 ghost use Rattle.sets.specs.SetI.{set_i};
 ghost use Rattle.attempts.specs.Attempt.{key_of, attempt};
 ghost use Rattle.signing.specs.Search.{search};
-ghost use Rattle.signing.specs.Promises.{Gives};
+ghost use Rattle.signing.specs.Promises.{Gives, counter_of};
 ghost use Rattle.signing.specs.Asks.{Searches, SearchesKey};
 
-use crate::Signed;
-use answers::Answer;
+use answers::Refusal;
 use attempts::Tried;
 use sets::{DIGEST_BYTES, Numbers, SEED_BYTES, SetI};
 
@@ -22,10 +21,10 @@ fn search(
     rand: &[u8; SEED_BYTES],
     budget: u32,
     signature: &mut [u8],
-) -> Signed
+) -> Result<u16, Refusal>
     requires known { Known set }
     requires searches { Searches set secret.now a.now budget signature.old }
-    ensures { Gives set 0 (search (attempt set (key_of set secret.now) digest.now rand.now) budget) signature.old signature.new (number_of result.answer) result.counter }
+    ensures { Gives set 0 (search (attempt set (key_of set secret.now) digest.now rand.now) budget) signature.old signature.new (number_of result) (counter_of result) }
 {
     let mut counter: u32 = 1;
     while counter <= budget {
@@ -33,26 +32,17 @@ fn search(
         let tried = attempts::attempt(set, secret, a, digest, rand, number, signature);
         match tried {
             Tried::Passes => {
-                return Signed {
-                    answer: Answer::Done,
-                    counter: number,
-                };
+                return Ok(number);
             }
             Tried::Overflows => {
-                return Signed {
-                    answer: Answer::High,
-                    counter: 0,
-                };
+                return Err(Refusal::High);
             }
             Tried::Fails => {
                 counter += 1;
             }
         }
     }
-    Signed {
-        answer: Answer::None,
-        counter: 0,
-    }
+    Err(Refusal::None)
 }
 
 // The same in set I: a_1..a_k are drawn once.
@@ -63,10 +53,10 @@ fn search_i(
     rand: &[u8; SEED_BYTES],
     budget: u32,
     signature: &mut [u8],
-) -> Signed
+) -> Result<u16, Refusal>
     requires set_value { set ≡ set_i }
     requires searches_key { SearchesKey set secret.now budget signature.old }
-    ensures { Gives set 0 (search (attempt set (key_of set secret.now) digest.now rand.now) budget) signature.old signature.new (number_of result.answer) result.counter }
+    ensures { Gives set 0 (search (attempt set (key_of set secret.now) digest.now rand.now) budget) signature.old signature.new (number_of result) (counter_of result) }
 {
     let mut a = [0u32; SetI::K * SetI::N];
     attempts::row::draw_key(set, secret, &mut a);
@@ -81,17 +71,14 @@ pub(crate) fn search_key(
     rand: &[u8; SEED_BYTES],
     budget: u32,
     signature: &mut [u8],
-) -> Signed
+) -> Result<u16, Refusal>
     requires known { Known set }
     requires searches_key { SearchesKey set secret.now budget signature.old }
-    ensures { Gives set 0 (search (attempt set (key_of set secret.now) digest.now rand.now) budget) signature.old signature.new (number_of result.answer) result.counter }
+    ensures { Gives set 0 (search (attempt set (key_of set secret.now) digest.now rand.now) budget) signature.old signature.new (number_of result) (counter_of result) }
 {
     let digit = set.digit;
     match digit {
         1 => search_i(set, secret, digest, rand, budget, signature),
-        _ => Signed {
-            answer: Answer::None,
-            counter: 0,
-        },
+        _ => Err(Refusal::None),
     }
 }

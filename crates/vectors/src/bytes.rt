@@ -2,7 +2,7 @@
 ghost use Rattle.std.specs.Prelude.{◌≡◌, ◌≤◌, ◌<◌, length};
 ghost use Rattle.vectors.specs.Held.{Held};
 
-use answers::Answer;
+use answers::Refusal;
 use shake::Sponge;
 
 // ---- numbers and parts
@@ -173,8 +173,8 @@ pub fn hash(bytes: &[u8], n: usize) {
 }
 
 // Document 01's number, as a byte.
-pub fn print_answer(answer: Answer) {
-    print_byte(answer.number());
+pub fn print_answer(answer: Result<(), Refusal>) {
+    print_byte(answers::number(&answer));
 }
 
 // ---- values

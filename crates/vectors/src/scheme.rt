@@ -28,9 +28,9 @@
 ghost use Rattle.std.specs.Prelude.{◌<◌};
 
 use crate::bytes;
+use answers::Refusal;
 use envelope::Opened;
 use shake::Sponge;
-use signing::Signed;
 
 // The stretch whose place stands from number i on.
 fn stretch(memory: &[u8], i: usize) -> &[u8]
@@ -73,10 +73,9 @@ fn make_key(memory: &mut [u8], secret: &mut [u8]) {
     store(public, memory, 2);
 }
 
-fn print_signed(signed: Signed) {
-    let answer = signed.answer;
-    bytes::print_answer(answer);
-    bytes::print_pair(signed.counter);
+fn print_signed(signed: Result<u16, Refusal>) {
+    bytes::print_byte(answers::number(&signed));
+    bytes::print_pair(signed.unwrap_or(0));
 }
 
 fn sign(memory: &[u8], signature: &mut [u8]) {
@@ -264,18 +263,18 @@ fn read_g(memory: &[u8]) {
 // ---- the envelope read and opened
 
 // The number, the team number and the hash of the roster.
-fn print_opened(opened: Opened, envelope: &[u8]) {
-    let answer = opened.answer;
-    bytes::print_answer(answer);
+fn print_opened(answer: Result<Opened, Refusal>, envelope: &[u8]) {
+    let opened = answer.unwrap_or(Opened { team: 0, len: 0 });
+    bytes::print_byte(answers::number(&answer));
     bytes::print_pair(opened.team);
     bytes::hash_all(envelope::roster(envelope, opened.len));
 }
 
 fn read_envelope(envelope: &[u8]) {
-    let opened = envelope::read(envelope);
-    let len = opened.len;
-    print_opened(opened, envelope);
-    bytes::hash_all(envelope::signature(envelope, len));
+    let answer = envelope::read(envelope);
+    let opened = answer.unwrap_or(Opened { team: 0, len: 0 });
+    print_opened(answer, envelope);
+    bytes::hash_all(envelope::signature(envelope, opened.len));
 }
 
 fn open_envelope(public: &[u8], envelope: &[u8]) {

@@ -1,17 +1,17 @@
 -- `checking::check_digest_in` meets its contract. The tests of the inputs, then the work. Assumes nothing.
 use borrow.Author.Rules.{rules}
-use Rattle.answers.specs.TestLaws.{before, beyond}
+use Rattle.answers.specs.ResultLaws.{beyond_ok, before_err, answered_err}
 use Rattle.checking.specs.Check.{digest_tests}
 use Rattle.checking.proofs.CheckSteps.{inputs_numbered, inputs_tested}
 use Rattle.checking.proofs.check_digest_in.Goals as goal
 
-pub returns-then-not-is_done : goal.returns-then-not-is_done
+pub returns-in_err-test_inputs : goal.returns-in_err-test_inputs
 unfolding digest_tests
-returns-then-not-is_done c = search (before, rules)
+returns-in_err-test_inputs c = search (before_err, answered_err, c.in_err-test_inputs.ensures, c.from_residual.ensures.1, rules)
 
 pub check_hash-requires-clause-tested : goal.check_hash-requires-clause-tested
-check_hash-requires-clause-tested c = search (inputs_tested, rules)
+check_hash-requires-clause-tested c = search (inputs_tested, c.in_ok-test_inputs.ensures, rules)
 
 pub returns : goal.returns
 unfolding digest_tests
-returns c = search (beyond, inputs_numbered, rules)
+returns c = search (beyond_ok, inputs_numbered, c.in_ok-test_inputs.ensures, rules)

@@ -4,8 +4,8 @@ use Rattle.sets.specs.Known.{known_good}
 use Rattle.signing.proofs.SignSteps.{search_asked}
 use Rattle.signing.proofs.sign_in.Goals as goal
 
-pub test_inputs-tested-requires : goal.test_inputs-tested-requires
-test_inputs-tested-requires c = search (known_good, rules)
+pub test_inputs-requires : goal.test_inputs-requires
+test_inputs-requires c = search (known_good, rules)
 
 pub sign_tested-requires-clause-searches_key : goal.sign_tested-requires-clause-searches_key
-sign_tested-requires-clause-searches_key c = search (search_asked, c.test_inputs-tested.ensures, known_good, rules)
+sign_tested-requires-clause-searches_key c = search (search_asked, c.in_ok-test_inputs.ensures, known_good, rules)

@@ -1,14 +1,15 @@
 -- The goals of `records::secret::read` that want an answer by hand. Assumes nothing.
 use borrow.Author.Rules.{rules}
-use Rattle.answers.specs.OutputLaws.{made_done, kept_refused}
+use Rattle.answers.specs.OutputLaws.{made}
+use Rattle.answers.specs.ResultLaws.{answered_err, kept_err}
 use Rattle.records.proofs.SecretSteps.{read_takes}
 use Rattle.records.proofs.secret.read.Goals as goal
 
 pub take_out-requires : goal.take_out-requires
-take_out-requires c = search (read_takes, rules)
+take_out-requires c = search (read_takes, c.in_ok-test_read.ensures, rules)
 
-pub returns-then-is_done : goal.returns-then-is_done
-returns-then-is_done c = search (made_done, rules)
+pub returns : goal.returns
+returns c = search (made, c.in_ok-test_read.ensures, rules)
 
-pub returns-else-is_done : goal.returns-else-is_done
-returns-else-is_done c = search (kept_refused, rules)
+pub returns-in_err-test_read : goal.returns-in_err-test_read
+returns-in_err-test_read c = search (answered_err, kept_err, c.in_err-test_read.ensures, c.from_residual.ensures.1, rules)

@@ -1,14 +1,15 @@
 -- The goals of `records::secret::write` that want an answer by hand. Assumes nothing.
 use borrow.Author.Rules.{rules}
-use Rattle.answers.specs.OutputLaws.{made_done, kept_refused}
+use Rattle.answers.specs.OutputLaws.{made}
+use Rattle.answers.specs.ResultLaws.{answered_err, kept_err}
 use Rattle.records.proofs.SecretSteps.{write_puts}
 use Rattle.records.proofs.secret.write.Goals as goal
 
 pub put-requires : goal.put-requires
-put-requires c = search (write_puts, rules)
+put-requires c = search (write_puts, c.in_ok-test_write.ensures, rules)
 
-pub returns-then-is_done : goal.returns-then-is_done
-returns-then-is_done c = search (made_done, rules)
+pub returns : goal.returns
+returns c = search (made, c.in_ok-test_write.ensures, rules)
 
-pub returns-else-is_done : goal.returns-else-is_done
-returns-else-is_done c = search (kept_refused, rules)
+pub returns-in_err-test_write : goal.returns-in_err-test_write
+returns-in_err-test_write c = search (answered_err, kept_err, c.in_err-test_write.ensures, c.from_residual.ensures.1, rules)
