@@ -1,27 +1,31 @@
--- Whether a number fits a signed byte, as the code tests it on an i32.
+-- A number's byte in two's complement, and whether it fits one, as the library's conversions give them.
 -- Assumes nothing.
-use mathlib.Core.Path.{◌≡◌, refl, sym}
-use mathlib.Core.Bool.{true, false, true≢false}
-use lib.IntN.{ℤ, pos, negsuc}
-use lib.Signed.{lt_z}
-use mir.Syntax.{w32}
-use mir.Val.{SFits, to_z, of_z}
-use mir.Facts.{to_z-of_z}
+use Rattle.std.proofs.Common.{◌≡◌, ◌%◌, ◌^◌, ◌<◌, refl, ℤ, pos, negsuc, FitsSigned, w8, w32, to_z, of_z, Result, Decides, arith, lt-ltb, ltb-true, to_z-of_z}
+use Rattle.std.specs.Int.Signed.{mag}
+use Rattle.std.specs.Result.{OkIff, is_ok}
+use Rattle.std.proofs.lemmas.Bool.Decides.{same_from_decides}
+use Rattle.std.proofs.lemmas.Result.{OkIff-decides}
+use borrow.Author.Rules.{sfits_of}
+use Rattle.whole.specs.Residue.{residue}
+use Rattle.whole.specs.Twos.{twos}
 use Rattle.rounding.specs.Tests.{fits_byte}
 
-module _ {z : ℤ} (f : SFits w32 z) where
-  -- the test from above, where the one from below passes
-  pub fits_below : lt_z (negsuc 128) (to_z w32 (of_z w32 z)) ≡ true → lt_z (to_z w32 (of_z w32 z)) (pos 128) ≡ fits_byte z
-  fits_below t = rw (to_z-of_z f) (go z (rw (to_z-of_z f) at t))
-    where
-      go : (y : ℤ) → lt_z (negsuc 128) y ≡ true → lt_z y (pos 128) ≡ fits_byte y
-      go (pos a) u = refl
-      go (negsuc a) u = sym u
+fits_byte_decides : (z : ℤ) → Decides (fits_byte z) (FitsSigned w8 z)
+fits_byte_decides (pos a) = (λ e. record { sfits = ltb-true a 128 e }, λ f. lt-ltb a 128 f.sfits)
+fits_byte_decides (negsuc a) = (λ e. record { sfits = ltb-true a 128 e }, λ f. lt-ltb a 128 f.sfits)
 
-  -- and where it fails
-  pub fits_above : lt_z (negsuc 128) (to_z w32 (of_z w32 z)) ≡ false → lt_z (negsuc 128) (to_z w32 (of_z w32 z)) ≡ fits_byte z
-  fits_above t = rw (to_z-of_z f) (go z (rw (to_z-of_z f) at t))
+module _ (z : ℤ) (f : mag z < 2 ^ 31) where
+  as_read : to_z w32 (of_z w32 z) ≡ z
+  as_read = to_z-of_z {w = w32} (sfits_of f)
+
+  -- the lowest byte of the word that holds z
+  pub low_byte : of_z w32 (to_z w32 (of_z w32 z)) % 256 ≡ twos 8 z
+  unfolding residue
+  low_byte = rw as_read (go z f)
     where
-      go : (y : ℤ) → lt_z (negsuc 128) y ≡ false → lt_z (negsuc 128) y ≡ fits_byte y
-      go (pos a) u = absurd (true≢false u)
-      go (negsuc a) u = refl
+      go : (y : ℤ) → mag y < 2 ^ 31 → of_z w32 y % 256 ≡ twos 8 y
+      go (pos a) l = refl
+      go (negsuc a) l = omega arith
+
+  pub fits_is : {E : Type 0} (r : Result ℤ E) → OkIff r (FitsSigned w8 (to_z w32 (of_z w32 z))) (to_z w32 (of_z w32 z)) → is_ok r ≡ fits_byte z
+  fits_is r h = same_from_decides _ _ (OkIff-decides r _ z (rw as_read at h)) (fits_byte_decides z)

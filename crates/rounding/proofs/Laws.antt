@@ -1,13 +1,12 @@
 -- What the code computes on residues is what the definitions say. Assumes nothing.
 use mathlib.Core.Path.{◌≡◌, refl, sym, ap, subst, ◌∙◌}
 use mathlib.Core.Logic.{◌⊎◌, inl, inr, ⊎_elim}
-use Prim.Native.Nat.{ℕ, zero, suc, ◌+◌, ◌*◌, ◌-◌, ◌/◌, ◌%◌, ◌^◌, ◌≤◌, ◌<◌}
+use Prim.Native.Nat.{ℕ, suc, ◌+◌, ◌*◌, ◌-◌, ◌/◌, ◌%◌, ◌^◌, ◌≤◌, ◌<◌}
 use native.Mathlib.Nat.{mod-lt, div-add-mod, mul-one}
 use native.Mathlib.Omega.{arith}
 use lib.Pow.{pow_pos, pow-lt}
 use lib.Bits.{bit_and, and_mask}
 use lib.IntN.{ℤ, pos, negsuc, neg_ℤ, nat_abs, ◌+ℤ◌, ◌-ℤ◌, ◌*ℤ◌}
-use lib.Signed.{mag}
 use borrow.Author.Tests.{le-leb, lt-leb}
 use mir.Syntax.{w32}
 use mir.Val.{to_z, SFits}
@@ -174,12 +173,6 @@ size_far m u h k = rw (lt-leb (u % m) (m / 2) k) (⊎_elim (λ e. omega (arith, 
 
     size : nat_abs y ≡ up y + down y
     size = abs_is y
-
--- ---- a small number's negation fits
-
-pub mag_neg : (m : ℕ) {k : ℕ} → m < k → mag (neg_ℤ (pos m)) < k
-mag_neg zero h = h
-mag_neg (suc m) h = omega arith
 
 -- ---- the low part's size from the bits below the step
 

@@ -1,4 +1,4 @@
 pub mod Laws
 pub mod Bytes
-pub mod Loops
+pub mod Items
 pub mod Determined
