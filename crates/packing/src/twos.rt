@@ -1,19 +1,14 @@
 // Two's complement at b bits: a polynomial's whole numbers as the values that are packed, and back.
 ghost use Rattle.std.specs.Prelude.{◌≡◌, map, ◌^◌, ◌<◌};
-ghost use Rattle.whole.specs.Twos.{InBits, signed, twos};
+ghost use Rattle.whole.specs.Twos.{signed, twos};
 ghost use Rattle.packing.specs.Twos.{ToBits, FromBits};
 
 // The b bits of z: z itself, or z + 2^b where z is negative.
 fn bits_of(z: i32, b: u32) -> u32
-    requires b_nonzero { (0 < b) × (b < 32) }
-    requires in_bits { InBits b z }
+    requires { b < 32 }
     ensures { result ≡ twos b z }
 {
-    if z < 0 {
-        ((1i64 << b) + z as i64) as u32
-    } else {
-        z as u32
-    }
+    z.cast_unsigned() & ((1 << b) - 1)
 }
 
 // What the b bits x stand for: x itself below 2^(b−1), and x − 2^b from there on.
@@ -25,7 +20,7 @@ fn value_of(x: u32, b: u32) -> i32
     if x < 1 << (b - 1) {
         x as i32
     } else {
-        (x as i64 - (1i64 << b)) as i32
+        (i64::from(x) - (1 << b)) as i32
     }
 }
 
@@ -34,10 +29,8 @@ pub fn to_bits(z: &[i32], b: u32, out: &mut [u32])
     requires { ToBits b z.now out.old }
     ensures { out.new ≡ map (twos b) z.now }
 {
-    let mut k = 0;
-    while k < z.len() {
-        out[k] = bits_of(z[k], b);
-        k += 1;
+    for (k, n) in z.iter().enumerate() {
+        out[k] = bits_of(*n, b);
     }
 }
 
@@ -46,9 +39,7 @@ pub fn from_bits(x: &[u32], b: u32, out: &mut [i32])
     requires { FromBits b x.now out.old }
     ensures { out.new ≡ map (signed b) x.now }
 {
-    let mut k = 0;
-    while k < x.len() {
-        out[k] = value_of(x[k], b);
-        k += 1;
+    for (k, bits) in x.iter().enumerate() {
+        out[k] = value_of(*bits, b);
     }
 }
