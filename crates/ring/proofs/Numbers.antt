@@ -2,22 +2,23 @@
 -- their absolute values. Assumes nothing.
 use mathlib.Core.Path.{◌≡◌, sym, ap, subst, ◌∙◌}
 use mathlib.Core.Bool.{true, false}
-use Prim.Native.Nat.{ℕ, ◌+◌, ◌*◌, ◌-◌, ◌%◌, ◌^◌, ◌≤◌, ◌<◌}
+use mathlib.Core.Logic.{⊎_elim}
+use Prim.Native.Nat.{ℕ, suc, ◌+◌, ◌*◌, ◌-◌, ◌%◌, ◌^◌, ◌≤◌, ◌<◌}
 use native.Mathlib.Nat.{mul-one, mod-lt}
 use native.Mathlib.Omega.{arith}
 use lib.Dec.{T}
-use mir.Syntax.{w32}
+use mir.Syntax.{w8, w32}
 use mir.Val.{to_z, of_z, Fits, SFits}
-use mir.Facts.{to_z_pos, to_z-of_z}
+use mir.Facts.{to_z_pos, to_z-neg, to_z-of_z}
 use borrow.Author.Rules.{sfits_of}
 use borrow.Author.Tests.{ltb-true}
 use lib.IntN.{ℤ, pos, negsuc, neg_ℤ, nat_abs, ◌+ℤ◌, ◌-ℤ◌, +ℤ_idl}
 use lib.Signed.{lt_z, non_neg}
-use Rattle.whole.specs.Int.{int, sum_is, minus_is, up_neg, down_neg, abs_neg, mag_le, negative_is, not_negative_is}
+use Rattle.whole.specs.Int.{int, lt_or_le, sum_is, minus_is, up_neg, down_neg, abs_neg, mag_le, negative_is, not_negative_is}
 use Rattle.whole.specs.Residue.{residue, Same}
 use Rattle.whole.specs.ResidueLaws.{residue_is, same_eq}
 use Rattle.whole.specs.Twos.{signed}
-use Rattle.whole.specs.TwosLaws.{signed_low, signed_high, signed_size}
+use Rattle.whole.specs.TwosLaws.{signed_low, signed_high}
 use Rattle.ring.specs.Asks.{Taken, Added}
 
 -- ---- a − b modulo q
@@ -110,15 +111,12 @@ module _ {q v : ℕ} {x : ℤ} (a : Added q v x) (f : SFits w32 x) where
 
 -- ---- signed bytes
 
-pub byte_low : (b : ℕ) → b < 128 → pos b ≡ signed 8 b
-byte_low b l = sym (signed_low 8 b l)
-
-pub byte_high : (b : ℕ) → 128 ≤ b → pos b -ℤ pos 256 ≡ signed 8 b
-byte_high b l = sym (signed_high 8 b l)
-
--- a byte is the same number in a wider word
-pub byte_word : (b : ℕ) → b < 256 → to_z w32 b ≡ pos b
-byte_word b l = to_z_pos w32 {n = b} (omega arith)
-
-pub byte_fits : (b : ℕ) → b < 256 → SFits w32 (signed 8 b)
-byte_fits b l = small_fits (signed 8 b) (omega (arith, signed_size b l))
+-- a byte read as a signed one is what it stands for
+pub byte_read : (b : ℕ) → b < 2 ^ 8 → to_z w8 b ≡ signed 8 b
+byte_read b l = ⊎_elim (λ lt. to_z_pos w8 lt ∙ sym (signed_low 8 b lt)) (λ le. high le ∙ sym (signed_high 8 b le)) (lt_or_le b 128)
+  where
+    high : 128 ≤ b → to_z w8 b ≡ pos b -ℤ pos 256
+    high le = ap (to_z w8) place ∙ to_z-neg w8 (255 - b) (omega arith) ∙ omega (int, minus_is (pos b) (pos 256))
+      where
+        place : b ≡ 2 ^ 8 - suc (255 - b)
+        place = omega arith

@@ -1,11 +1,14 @@
 -- A sum that is kept up to multiples of a multiple of q gives the residue of a coefficient of the product. Assumes nothing.
-use mathlib.Core.Path.{◌≡◌, refl, sym, ap, ap₂, subst, ◌∙◌}
-use mathlib.Core.List.{List}
-use Prim.Native.Nat.{ℕ, suc, ◌+◌, ◌*◌, ◌-◌, ◌/◌, ◌%◌, ◌^◌, ◌≤◌, ◌<◌}
-use native.Mathlib.Nat.{add-zero, mod-lt, mod-add-mod, mod-eq-sub-mod, mul-le-mul, mul-div-le, lt-mul-div-succ, mod-mod, zero-add}
+use mathlib.Core.Path.{◌≡◌, sym, ap, ap₂, subst, ◌∙◌}
+use mathlib.Core.List.{List, reverse}
+use Rattle.std.specs.List.{zip}
+use Rattle.std.proofs.lemmas.List.{get_or_default, get_or-reverse, length-reverse}
+use Rattle.std.proofs.lemmas.Slice.Zip.{length-zip, get_or-zip}
+use Prim.Native.Nat.{ℕ, suc, ◌+◌, ◌*◌, ◌-◌, ◌%◌, ◌≤◌, ◌<◌}
+use native.Mathlib.Nat.{add-zero, mod-lt, mod-add-mod, mod-mod, zero-add}
 use native.Mathlib.Numerals.{add-one}
 use native.Mathlib.Omega.{arith}
-use lib.ListN.{length, get_or, take, drop, length-take, length-drop}
+use lib.ListN.{length, get_or, take, drop, length-drop}
 use lib.Seq.{take_all, length-take-le, get_or-take, get_or-drop}
 use lib.IntN.{ℤ, pos, ◌+ℤ◌, ◌-ℤ◌, ◌*ℤ◌}
 use Rattle.whole.specs.Int.{int, sum_is, minus_is, *ℤ-assoc}
@@ -13,7 +16,6 @@ use Rattle.whole.specs.Residue.{residue, Same}
 use Rattle.whole.specs.ResidueLaws.{residue_is, residue_eq_same, same_refl, same_sym, same_trans, same_minus}
 use Rattle.whole.specs.Sum.{total}
 use Rattle.whole.specs.SumLaws.{sum_total, total_ext}
-use Rattle.whole.specs.BelowLaws.{below_more, below_drop, below_take}
 use Rattle.ring.specs.Product.{mul}
 use Rattle.ring.specs.ProductLaws.{mul_written}
 use Rattle.ring.specs.Lists.{naturals}
@@ -21,70 +23,67 @@ use Rattle.ring.specs.Asks.{crossing, crossed, Factors, Multiple, Kept, Addend, 
 
 -- ---- a sum up to multiples
 
--- a product of two numbers below 2^31 is below 2^62
-pub product_below : {x y : ℕ} → x < 2 ^ 31 → y < 2 ^ 31 → x * y < 2 ^ 62
-product_below {x} {y} h k = omega (arith, mul-le-mul {n₁ = x} {m₁ = y} {n₂ = 2 ^ 31 - 1} {m₂ = 2 ^ 31 - 1} (omega arith) (omega arith))
-
-pub kept_under : {multiple s : ℕ} → s < multiple → Kept multiple s s
-kept_under h = record { within = omega arith; same = refl }
-
-pub kept_over : {multiple s : ℕ} → multiple ≤ s → s ≤ multiple + multiple → Kept multiple s (s - multiple)
-kept_over h k = record { within = omega arith; same = sym (mod-eq-sub-mod h) }
-
 -- the sum stands for acc and the first i products of a row
 pub record After (multiple acc : ℕ) (xs ys : List ℕ) (i sum : ℕ) : Type 0 where
   pub kept : Kept multiple (acc + total i (crossing xs ys)) sum
 
-module _ {multiple acc : ℕ} {xs ys : List ℕ} where
-  pub after_none : acc ≤ multiple → After multiple acc xs ys 0 acc
-  unfolding total
-  after_none h = record { kept = record { within = h; same = ap (λ (t : ℕ). t % multiple) (sym (add-zero acc)) } }
+pub after_none : {multiple acc : ℕ} {xs ys : List ℕ} → acc ≤ multiple → After multiple acc xs ys 0 acc
+unfolding total
+after_none {multiple = multiple} {acc = acc} h = record { kept = record { within = h; same = ap (λ (t : ℕ). t % multiple) (sym (add-zero acc)) } }
 
-  pub next_fits : {i sum : ℕ} → Foldable multiple acc xs ys → i < length xs → After multiple acc xs ys i sum → Addend multiple sum (get_or xs i 0) (get_or ys (length xs - 1 - i) 0)
-  next_fits {i} f l a =
-      record {
-        x_below = f.x_below.at i l;
-        y_below = f.y_below.at (length xs - 1 - i) (omega (arith, f.long));
-        start = a.kept.within;
-        least = f.least;
-        most = f.most;
-      }
+-- a turn at place i has xᵢ and y_(len − 1 − i)
+module _ {multiple acc : ℕ} {xs ys : List ℕ} (f : Foldable multiple acc xs ys) where
+  module _ {i sum x y : ℕ} (t : (i < length (zip xs (reverse ys))) × ((x, y) ≡ get_or (zip xs (reverse ys)) i (x, y))) (a : After multiple acc xs ys i sum) where
+    inside : i < length xs
+    inside = omega (arith, t.0, length-zip xs (reverse ys))
 
-  pub after_more : {i sum next : ℕ} → After multiple acc xs ys i sum → Kept multiple (sum + get_or xs i 0 * get_or ys (length xs - 1 - i) 0) next → After multiple acc xs ys (i + 1) next
-  unfolding total
-  after_more {i} {sum} {next} a b = record { kept = record { within = b.within; same = same } }
-    where
-      place : length xs - 1 - i ≡ length xs - suc i
-      place = omega arith
+    in_back : i < length (reverse ys)
+    in_back = omega (arith, inside, length-reverse ys, f.long)
 
-      one_more : acc + total i (crossing xs ys) + crossing xs ys i ≡ acc + total (i + 1) (crossing xs ys)
-      one_more = rw (add-one i) (omega arith)
+    pair : ◌≡◌ {A = ℕ × ℕ} (x, y) (get_or xs i x, get_or (reverse ys) i y)
+    pair = t.1 ∙ get_or-zip xs (reverse ys) i (x, y) inside in_back
 
-      same : next % multiple ≡ (acc + total (i + 1) (crossing xs ys)) % multiple
-      same =
-          b.same
-          ∙ ap (λ (j : ℕ). (sum + get_or xs i 0 * get_or ys j 0) % multiple) place
-          ∙ sym (mod-add-mod sum multiple (crossing xs ys i))
-          ∙ ap (λ (t : ℕ). (t + crossing xs ys i) % multiple) a.kept.same
-          ∙ mod-add-mod (acc + total i (crossing xs ys)) multiple (crossing xs ys i)
-          ∙ ap (λ (t : ℕ). t % multiple) one_more
+    x_is : x ≡ get_or xs i 0
+    x_is = ap (λ (p : ℕ × ℕ). p.0) pair ∙ get_or_default xs i x 0 inside
 
-  pub after_all : {i sum : ℕ} → i ≤ length xs → length xs ≤ i → After multiple acc xs ys i sum → Kept multiple (acc + crossed xs ys) sum
-  after_all {i} {sum} h l a = subst (λ (n : ℕ). Kept multiple (acc + total n (crossing xs ys)) sum) whole a.kept
+    y_is : y ≡ get_or ys (length xs - suc i) 0
+    y_is =
+        ap (λ (p : ℕ × ℕ). p.1) pair
+        ∙ get_or_default (reverse ys) i y 0 in_back
+        ∙ get_or-reverse ys i 0 (omega (arith, inside, f.long))
+        ∙ ap (λ (j : ℕ). get_or ys j 0) (omega (arith, inside, f.long))
+
+    pub next_fits : Addend multiple sum x y
+    next_fits =
+        record {
+          x_below = rw x_is (f.x_below.at i inside);
+          y_below = rw y_is (f.y_below.at (length xs - suc i) (omega (arith, inside, f.long)));
+          start = a.kept.within;
+          least = f.least;
+          most = f.most;
+        }
+
+    pub after_more : {next : ℕ} → Kept multiple (sum + x * y) next → After multiple acc xs ys (i + 1) next
+    unfolding total
+    after_more {next} b = record { kept = record { within = b.within; same = same } }
+      where
+        one_more : acc + total i (crossing xs ys) + crossing xs ys i ≡ acc + total (i + 1) (crossing xs ys)
+        one_more = rw (add-one i) (omega arith)
+
+        same : next % multiple ≡ (acc + total (i + 1) (crossing xs ys)) % multiple
+        same =
+            b.same
+            ∙ ap₂ (λ (m n : ℕ). (sum + m * n) % multiple) x_is y_is
+            ∙ sym (mod-add-mod sum multiple (crossing xs ys i))
+            ∙ ap (λ (t : ℕ). (t + crossing xs ys i) % multiple) a.kept.same
+            ∙ mod-add-mod (acc + total i (crossing xs ys)) multiple (crossing xs ys i)
+            ∙ ap (λ (t : ℕ). t % multiple) one_more
+
+  pub after_all : {i sum : ℕ} → i ≡ length (zip xs (reverse ys)) → After multiple acc xs ys i sum → Kept multiple (acc + crossed xs ys) sum
+  after_all {i} {sum} e a = subst (λ (n : ℕ). Kept multiple (acc + total n (crossing xs ys)) sum) whole a.kept
     where
       whole : i ≡ length xs
-      whole = omega arith
-
--- ---- the largest multiple of q that is at most 2^63
-
-pub multiple_is : (q : ℕ) → 0 < q → q ≤ 2 ^ 31 → Multiple q (q * (2 ^ 63 / q))
-multiple_is q h k =
-    record {
-      times = 2 ^ 63 / q;
-      is = refl;
-      least = omega (arith, lt-mul-div-succ (2 ^ 63) h);
-      most = mul-div-le (2 ^ 63) q;
-    }
+      whole = omega (arith, e, length-zip xs (reverse ys), length-reverse ys, f.long)
 
 -- ---- the residue of a difference of two such sums
 
@@ -173,30 +172,6 @@ upto_is : (k : ℕ) (xs : List ℕ) → upto k xs ≡ take (suc k) xs
 upto_is k xs = ap (λ (n : ℕ). take n xs) (add-one k)
 
 module _ {q multiple : ℕ} {a b : List ℕ} {k : ℕ} (r : Row q multiple a b k) where
-  pub above_fits : Foldable multiple 0 (above k a) (above k b)
-  above_fits =
-      rw (above_is k a, above_is k b)
-      (record {
-        long = omega (arith, length-drop (suc k) a, length-drop (suc k) b, r.long);
-        x_below = below_drop (2 ^ 31) (suc k) a (below_more a r.small r.a_below);
-        y_below = below_drop (2 ^ 31) (suc k) b (below_more b r.small r.b_below);
-        start = omega arith;
-        least = r.whole.least;
-        most = r.whole.most;
-      })
-
-  pub upto_fits : {z w : ℕ} → Kept multiple z w → Foldable multiple (multiple - w) (upto k a) (upto k b)
-  upto_fits h =
-      rw (upto_is k a, upto_is k b)
-      (record {
-        long = omega (arith, length-take (suc k) a, length-take (suc k) b, r.long);
-        x_below = below_take (2 ^ 31) (suc k) a (below_more a r.small r.a_below);
-        y_below = below_take (2 ^ 31) (suc k) b (below_more b r.small r.b_below);
-        start = omega arith;
-        least = r.whole.least;
-        most = r.whole.most;
-      })
-
   pub row_is : (w s : ℕ) → Kept multiple (0 + crossed (above k a) (above k b)) w
       → Kept multiple (multiple - w + crossed (upto k a) (upto k b)) s → s % q ≡ residue q (mul (length a) (naturals a) (naturals b) k)
   row_is w s kw ks =

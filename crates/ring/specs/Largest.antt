@@ -2,8 +2,7 @@
 -- pushed in, at each place the larger stays and the smaller moves on, and what moves past the last place falls off.
 -- The laws (`LargestLaws`) say that no h entries of the list sum to more, and that some h entries sum to it.
 -- Assumes nothing: these are definitions.
-use Rattle.std.specs.Prelude.{◌≡◌, Bool, List, [], ◌∷◌, map, ℕ, suc, ◌+◌, ◌^◌, ◌≤◌, min, max, leb, length, replicate, nat_abs}
-use Rattle.whole.specs.Below.{Below}
+use Rattle.std.specs.Prelude.{Bool, List, [], ◌∷◌, map, ℕ, suc, ◌+◌, ◌^◌, ◌≤◌, min, max, leb, length, replicate, nat_abs}
 use Rattle.whole.specs.Twos.{signed}
 
 -- x pushed into the places
@@ -32,18 +31,9 @@ sizes bytes = map (λ (b : ℕ). nat_abs (signed 8 b)) bytes
 unfoldable pub sum_passes : ℕ → ℕ → List ℕ → Bool
 sum_passes h bound bytes = leb (largest h (sizes bytes)) bound
 
--- places before anything is pushed in: for `push_all`
-pub record Cleared (ps : List ℕ) : Type 0 where
-  pub zeros : ps ≡ replicate (length ps) 0
-
--- few enough places for `add_up`: for `largest_sum` and `sum_passes`
+-- few enough places for their sum to fit the machine's word, whatever signed bytes are pushed in
 pub record Few (ps : List ℕ) : Type 0 where
   pub few : length ps ≤ 2 ^ 16
-
--- places whose sum fits the machine's word: few, and none above 128, the largest absolute value of a signed byte: for `add_up`
-pub record Addable (ps : List ℕ) : Type 0 where
-  pub few : length ps ≤ 2 ^ 16
-  pub small : Below 129 ps
 
 -- h entries of xs, each taken once, sum to s
 pub data Choice : ℕ → List ℕ → ℕ → Type 0 where

@@ -13,5 +13,5 @@ ghost use Rattle.whole.specs.Twos.{signed};
 fn signed_byte(b: u8) -> i32
     ensures { result ≡ signed 8 b }
 {
-    if b < 128 { b as i32 } else { b as i32 - 256 }
+    i32::from(b.cast_signed())
 }

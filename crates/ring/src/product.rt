@@ -10,7 +10,7 @@ fn added(sum: u64, x: u32, y: u32, multiple: u64) -> u64
     requires { Addend multiple sum x y }
     ensures { Kept multiple (sum + x * y) result }
 {
-    let s = sum + (x as u64) * (y as u64);
+    let s = sum + u64::from(x) * u64::from(y);
     if s >= multiple { s - multiple } else { s }
 }
 
@@ -19,12 +19,9 @@ fn fold(x: &[u32], y: &[u32], acc: u64, multiple: u64) -> u64
     requires { Foldable multiple acc x.now y.now }
     ensures { Kept multiple (acc + crossed x.now y.now) result }
 {
-    let n = x.len();
     let mut sum = acc;
-    let mut i: usize = 0;
-    while i < n {
-        sum = added(sum, x[i], y[n - 1 - i], multiple);
-        i += 1;
+    for (a, b) in x.iter().zip(y.iter().rev()) {
+        sum = added(sum, *a, *b, multiple);
     }
     sum
 }
@@ -37,7 +34,7 @@ fn row(a: &[u32], b: &[u32], q: u32, multiple: u64, k: usize) -> u32
     let next = k + 1;
     let wrapped = fold(&a[next..], &b[next..], 0, multiple);
     let sum = fold(&a[..next], &b[..next], multiple - wrapped, multiple);
-    (sum % (q as u64)) as u32
+    (sum % u64::from(q)) as u32
 }
 
 // The largest multiple of q that is at most 2^63.
@@ -45,7 +42,7 @@ fn multiple_of(q: u32) -> u64
     requires { (0 < q) × (q ≤ 2 ^ 31) }
     ensures { Multiple q result }
 {
-    (q as u64) * (9223372036854775808 / (q as u64))
+    u64::from(q) * (9223372036854775808 / u64::from(q))
 }
 
 // out = a · b modulo q: n coefficients from 0 to q − 1, as a and b hold them.
@@ -54,10 +51,7 @@ pub fn multiply(a: &[u32], b: &[u32], q: u32, out: &mut [u32])
     ensures { out.new ≡ residues q (length out.old) (mul (length out.old) (naturals a.now) (naturals b.now)) }
 {
     let multiple = multiple_of(q);
-    let n = a.len();
-    let mut k: usize = 0;
-    while k < n {
-        out[k] = row(a, b, q, multiple, k);
-        k += 1;
+    for (k, place) in out.iter_mut().enumerate() {
+        *place = row(a, b, q, multiple, k);
     }
 }

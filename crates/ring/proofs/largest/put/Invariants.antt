@@ -1,11 +1,7 @@
--- The loop of `ring::largest::put`. It has pushed past the first i places. Assumes nothing.
-use Prim.Native.Nat.{◌-◌}
-use lib.ListN.{length}
-use Rattle.ring.proofs.Places.{Pushing}
+-- The loop of `ring::largest::put`. What stands before `slot`, and `moving` pushed into the rest, make the push of x. Assumes nothing.
+use Rattle.std.proofs.Common.{◌≡◌, ◌++◌, take, drop}
+use Rattle.ring.specs.Largest.{push}
 use Rattle.ring.proofs.largest.put.Given as goal
 
-abbrev pub invariant-loop-i : goal.invariant-loop-i
-invariant-loop-i l = Pushing l.x l.initial.slots l.moving l.i l.slots
-
-abbrev pub decreases-loop-i : goal.decreases-loop-i
-decreases-loop-i l = length l.initial.slots - l.i
+abbrev pub invariant-loop-slot : goal.invariant-loop-slot
+invariant-loop-slot l = take l.slot-index l.slots ++ push l.moving (drop l.slot-index l.slots) ≡ push l.x l.initial.slots

@@ -1,10 +1,8 @@
 -- The goals of `ring::largest::size_of` that want an answer by hand. Assumes nothing.
-use borrow.Author.Rules.{rules}
-use Rattle.whole.specs.TwosLaws.{size_low, size_high}
+use Rattle.std.proofs.lemmas.Int.{ints}
+use Rattle.std.proofs.Common.{arith}
+use Rattle.ring.proofs.Numbers.{byte_read}
 use Rattle.ring.proofs.largest.size_of.Goals as goal
 
-pub returns-then-b-lt128 : goal.returns-then-b-lt128
-returns-then-b-lt128 c = search (size_low, rules)
-
-pub returns-else-b-lt128 : goal.returns-else-b-lt128
-returns-else-b-lt128 c = search (size_high, rules)
+pub returns : goal.returns
+returns c = grind (arith, ints, byte_read)

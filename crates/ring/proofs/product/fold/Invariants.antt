@@ -1,10 +1,7 @@
--- The loop of `ring::product::fold`. The sum stands for acc and the first i products. Assumes nothing.
-use Prim.Native.Nat.{◌-◌, ◌≤◌}
+-- The loop of `ring::product::fold`. The sum stands for acc and the products so far. Assumes nothing.
+use Rattle.std.proofs.Common.{length}
 use Rattle.ring.proofs.ProductLaws.{After}
 use Rattle.ring.proofs.product.fold.Given as goal
 
-abbrev pub invariant-loop-i : goal.invariant-loop-i
-invariant-loop-i l = (l.i ≤ l.n) × After l.multiple l.acc l.x l.y l.i l.sum
-
-abbrev pub decreases-loop-i : goal.decreases-loop-i
-decreases-loop-i l = l.n - l.i
+abbrev pub invariant-loop-a : goal.invariant-loop-a
+invariant-loop-a l = After l.multiple l.acc l.x l.y (length l.yielded) l.sum

@@ -1,5 +1,5 @@
 -- The goals of `ring::product::multiply` that want an answer by hand. Assumes nothing.
-use native.Mathlib.Omega.{arith}
+use Rattle.std.proofs.Common.{rules}
 use Rattle.whole.specs.Fill.{wrote_none, wrote_more}
 use Rattle.ring.proofs.ProductLaws.{row_of}
 use Rattle.ring.proofs.product.multiply.Goals as goal
@@ -8,5 +8,4 @@ pub loop-k-init : goal.loop-k-init
 loop-k-init c = wrote_none
 
 pub loop-k-preserved : goal.loop-k-preserved
-loop-k-preserved c =
-    wrote_more c.loop-k.invariant (omega arith) (row_of c.requires c.loop-k.k c.row.ensures)
+loop-k-preserved c = search (wrote_more, row_of, rules)
