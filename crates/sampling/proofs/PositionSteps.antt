@@ -3,7 +3,8 @@
 -- Assumes nothing.
 use mathlib.Core.Path.{◌≡◌, refl, sym, ap, ap₂, ◌∙◌}
 use mathlib.Core.Logic.{⊎_elim}
-use mathlib.Core.Bool.{Bool, true, false}
+use mathlib.Core.Bool.{Bool, true, false, ◌||◌}
+use lib.Dec.{eqb}
 use mathlib.Core.List.{List, [], ◌∷◌, ◌++◌, append-nil}
 use Prim.Native.Nat.{ℕ, zero, suc, ◌+◌, ◌-◌, ◌*◌, ◌/◌, ◌%◌, ◌^◌, ◌≤◌, ◌<◌}
 use native.Mathlib.Nat.{zero-add, le_of_eq, mod_self, mod-lt, mod-eq_of_lt}
@@ -11,9 +12,11 @@ use native.Mathlib.Numerals.{add-one}
 use native.Mathlib.Omega.{arith}
 use lib.IntN.{ℤ, pos, negsuc}
 use lib.ListN.{length, get_or, take, drop, set, take-append-drop, length-drop, length-map, drop_of_length-le}
-use lib.Seq.{take-suc, take_all, drop-cons}
+use lib.Seq.{take-suc, take_all}
 use lib.Pow.{pow_pos, pow_mono}
 use borrow.Author.Tests.{eq-eqb, ne_eqb}
+use Rattle.std.specs.List.{list_any}
+use Rattle.std.proofs.lemmas.Cmp.{nat_eq_equiv}
 use Rattle.whole.specs.Int.{lt_or_le, less_one}
 use Rattle.whole.specs.Below.{Below}
 use Rattle.whole.specs.Parts.{part_length, part_at}
@@ -54,35 +57,23 @@ module _ (stretch : List ℕ) (j : ℕ) (h : j < held 3 stretch) (b : Below 256 
   pub sign_clear : (get_or stretch (3 * j + 2) 0 % 2 ≡ 1 → ⊥) → pos 1 ≡ sign_of (piece 3 stretch j / 65536)
   sign_clear e = rw (third stretch j h b, ne_eqb (get_or stretch (3 * j + 2) 0 % 2) 1 e)
 
--- ---- a search from the front
+-- ---- among positions
 
--- p is among ps exactly if it is among those from i on
-pub record Looking (p : ℕ) (ps : List ℕ) (i : ℕ) : Type 0 where
-  pub same : is_in p (drop i ps) ≡ is_in p ps
-
-module _ {p : ℕ} {ps : List ℕ} {i : ℕ} (l : Looking p ps i) where
-  pub in_found : i < length ps → get_or ps i 0 ≡ p → true ≡ is_in p ps
-  unfolding is_in
-  in_found h e = sym (rw (drop-cons ps i 0 h, e, eq-eqb p p refl)) ∙ l.same
-
-  pub in_passed : i < length ps → (get_or ps i 0 ≡ p → ⊥) → Looking p ps (i + 1)
-  unfolding is_in
-  in_passed h e =
-      record { same = sym (rw (add-one i, drop-cons ps i 0 h, ne_eqb p (get_or ps i 0) (λ q. e (sym q)))) ∙ l.same }
-
-  pub in_none : length ps ≤ i → false ≡ is_in p ps
-  unfolding is_in
-  in_none h = sym (rw (drop_of_length-le ps h)) ∙ l.same
+-- what `contains` answers
+pub contained : {taken : Bool} (p : ℕ) (ps : List ℕ) → taken ≡ list_any (λ y. eqb y p) ps → taken ≡ is_in p ps
+unfolding is_in
+contained p ps e = e ∙ go ps
+  where
+    go : (qs : List ℕ) → list_any (λ y. eqb y p) qs ≡ is_in p qs
+    go [] = refl
+    go (q ∷ qs) = ap₂ ◌||◌ (nat_eq_equiv.symm q p) (go qs)
 
 -- ---- the next free position
 
--- the next free position from `at` on, with the steps left, is the one from p on
-pub record Freeing (n p : ℕ) (ps : List ℕ) (at steps : ℕ) : Type 0 where
+-- after i steps: the next free position from `at` on, with the steps left, is the one from p on
+pub record Freeing (n p : ℕ) (ps : List ℕ) (at i : ℕ) : Type 0 where
   pub inside : at < n
-  pub same : free n steps at ps ≡ free n n p ps
-
-pub freeing_none : {n p : ℕ} {ps : List ℕ} → p < n → Freeing n p ps p n
-freeing_none h = record { inside = h; same = refl }
+  pub same : free n (n - i) at ps ≡ free n n p ps
 
 up : {n p r : ℕ} → p < n → Upward n p r → r ≡ (p + 1) % n
 up {n} {p} {r} h u = ⊎_elim (λ l. u.one l ∙ sym (mod-eq_of_lt l)) (λ l. u.around (top l) ∙ sym (rw (top l) (mod_self n))) (lt_or_le (p + 1) n)
@@ -100,19 +91,22 @@ unfolding free
 free_none n zero p ps h = refl
 free_none n (suc steps) p ps h = absurd (omega arith)
 
-module _ {n p : ℕ} {ps : List ℕ} {at steps : ℕ} (f : Freeing n p ps at steps) where
-  pub freeing_on : {taken : Bool} {r : ℕ} → taken ≡ is_in at ps → taken ≡ true → 0 < steps → Upward n at r → Freeing n p ps r (steps - 1)
-  freeing_on e t h u =
+module _ {n p : ℕ} {ps : List ℕ} {at i : ℕ} (f : Freeing n p ps at i) where
+  pub freeing_on : {r : ℕ} → is_in at ps ≡ true → i < n → Upward n at r → Freeing n p ps r (i + 1)
+  freeing_on e h u =
       record {
         inside = rw (up f.inside u) (mod-lt (at + 1) (omega (arith, f.inside)));
-        same = rw (up f.inside u) (sym (free_on n steps at ps h (sym e ∙ t)) ∙ f.same);
+        same = rw (up f.inside u, fewer) (sym (free_on n (n - i) at ps (omega arith) e) ∙ f.same);
       }
+    where
+      fewer : n - (i + 1) ≡ n - i - 1
+      fewer = omega arith
 
-  pub freeing_here : {taken : Bool} → taken ≡ is_in at ps → taken ≡ false → at ≡ free n n p ps
-  freeing_here e t = sym (free_here n steps at ps (sym e ∙ t)) ∙ f.same
+  pub freeing_here : is_in at ps ≡ false → at ≡ free n n p ps
+  freeing_here e = sym (free_here n (n - i) at ps e) ∙ f.same
 
-  pub freeing_out : steps ≤ 0 → at ≡ free n n p ps
-  freeing_out h = sym (free_none n steps at ps h) ∙ f.same
+  pub freeing_out : n ≤ i → at ≡ free n n p ps
+  freeing_out h = sym (free_none n (n - i) at ps (omega arith)) ∙ f.same
 
 -- it fits two bytes
 pub free_fits : {r : ℕ} (n p : ℕ) (ps : List ℕ) → r ≡ free n n p ps → p < n → n ≤ 65536 → r < 2 ^ 16

@@ -14,14 +14,6 @@ use crate::{less_stretch, positions_stretch, values_stretch};
 use sets::Numbers;
 use shake::Sponge;
 
-// Candidates of the next stretch, at most `most`: `left` of them remain.
-fn stretch_of(left: usize, most: usize) -> usize
-    requires { (0 < left) × (0 < most) }
-    ensures { (0 < result) × ((result ≤ left) × (result ≤ most)) }
-{
-    if left < most { left } else { most }
-}
-
 // ---- y
 
 // The state of stream 2 that has absorbed rand and the counter, two bytes, low first.
@@ -44,11 +36,10 @@ fn draw_less(start: Sponge, bits: u32, b: u32, out: &mut [i32])
     let mut left = 2 * out.len();
     let mut at = 0;
     while at < out.len() {
-        let k = stretch_of(left, 136);
+        let k = left.min(136);
         let bytes = 3 * k;
         left -= k;
-        let after = sponge.squeeze(&mut buffer[..bytes]);
-        sponge = after;
+        sponge = sponge.squeeze(&mut buffer[..bytes]);
         at = less_stretch(&buffer[..bytes], bits, b, left, out, at);
     }
 }
@@ -70,14 +61,13 @@ fn draw_positions(start: Sponge, n: u32, bits: u32, positions: &mut [u16], signs
 {
     let mut sponge = start;
     let mut buffer = [0u8; 408];
-    let mut left = 256;
+    let mut left: usize = 256;
     let mut at = 0;
     while at < positions.len() {
-        let k = stretch_of(left, 136);
+        let k = left.min(136);
         let bytes = 3 * k;
         left -= k;
-        let after = sponge.squeeze(&mut buffer[..bytes]);
-        sponge = after;
+        sponge = sponge.squeeze(&mut buffer[..bytes]);
         at = positions_stretch(&buffer[..bytes], bits, n, left, positions, signs, at);
     }
 }
@@ -129,11 +119,10 @@ pub fn next_a(set: Numbers, d: DrawA, out: &mut [u32]) -> DrawA
     let mut buffer = [0u8; 408];
     let mut at = 0;
     while at < out.len() {
-        let k = stretch_of(out.len() - at, 102);
+        let k = (out.len() - at).min(102);
         let bytes = 4 * k;
         left -= k;
-        let after = sponge.squeeze(&mut buffer[..bytes]);
-        sponge = after;
+        sponge = sponge.squeeze(&mut buffer[..bytes]);
         let next = values_stretch(&buffer[..bytes], set.t_bits, set.q, left, need, out, at);
         need -= next - at;
         at = next;

@@ -10,7 +10,7 @@ ghost use Rattle.answers.specs.Answers.{number_of};
 ghost use Rattle.sets.specs.Good.{Good};
 ghost use Rattle.sets.specs.SetI.{set_i};
 ghost use Rattle.sampling.specs.Candidates.{held, piece, candidates};
-ghost use Rattle.sampling.specs.Positions.{is_in, free, sign_of, drawn_candidates};
+ghost use Rattle.sampling.specs.Positions.{free, sign_of, drawn_candidates};
 ghost use Rattle.sampling.specs.Streams.{two_bytes};
 ghost use Rattle.sampling.specs.Stretches.{part, part_positions, drawn_as};
 ghost use Rattle.sampling.specs.Values.{less_of};
@@ -27,17 +27,10 @@ use sets::{Numbers, SetI};
 pub fn two_bytes(x: u16) -> [u8; 2]
     ensures { result ≡ two_bytes x }
 {
-    [(x % 256) as u8, (x / 256) as u8]
+    x.to_le_bytes()
 }
 
 // ---- candidates
-
-// A byte as a number.
-fn wide(b: u8) -> u64
-    ensures { result ≡ b }
-{
-    b as u64
-}
 
 // Candidate j: the low bits of the number that the size bytes from size · j on make, low byte first.
 fn candidate(stretch: &[u8], size: usize, bits: u32, j: usize) -> u32
@@ -49,7 +42,7 @@ fn candidate(stretch: &[u8], size: usize, bits: u32, j: usize) -> u32
     let mut k = size;
     while 0 < k {
         k -= 1;
-        v = v * 256 + wide(stretch[from + k]);
+        v = v * 256 + u64::from(stretch[from + k]);
     }
     packing::low(v, bits)
 }
@@ -109,7 +102,7 @@ fn less(v: u32, b: u32) -> i32
     requires { (v ≤ 2 * b) × (b < 2 ^ 31) }
     ensures { result ≡ less_of b v }
 {
-    (v as i64 - b as i64) as i32
+    (i64::from(v) - i64::from(b)) as i32
 }
 
 // One candidate for a value from 0 to 2b, with `left` candidates after it and `need` values needed: what is taken of it, less b, is
@@ -168,42 +161,25 @@ fn sign_at(stretch: &[u8], j: usize) -> i8
     if stretch[3 * j + 2] % 2 == 1 { -1 } else { 1 }
 }
 
-// Whether p is among the positions ps.
-fn is_in(ps: &[u16], p: u32) -> bool
-    ensures { result ≡ is_in p ps.now }
-{
-    let mut i = 0;
-    while i < ps.len() {
-        if ps[i] as u32 == p {
-            return true;
-        }
-        i += 1;
-    }
-    false
-}
-
 // The next position upward, from n − 1 on to 0.
-fn upward(p: u32, n: u32) -> u32
-    requires { p < n }
+fn upward(p: u16, n: u32) -> u16
+    requires { (p < n) × (n ≤ 65536) }
     ensures { Upward n p result }
 {
-    if p + 1 == n { 0 } else { p + 1 }
+    if u32::from(p) + 1 == n { 0 } else { p + 1 }
 }
 
 // p if it is not among ps, else the next position upward that is not.
-fn next_free(ps: &[u16], n: u32, p: u32) -> u32
-    requires { p < n }
+fn next_free(ps: &[u16], n: u32, p: u16) -> u16
+    requires { (p < n) × (n ≤ 65536) }
     ensures { result ≡ free n n p ps.now }
 {
     let mut at = p;
-    let mut steps = n;
-    while 0 < steps {
-        if is_in(ps, at) {
-            steps -= 1;
-            at = upward(at, n);
-        } else {
+    for _ in 0..n {
+        if !ps.contains(&at) {
             return at;
         }
+        at = upward(at, n);
     }
     at
 }
@@ -211,7 +187,7 @@ fn next_free(ps: &[u16], n: u32, p: u32) -> u32
 // One candidate for a position below n, with its sign, `left` candidates after it and `need` positions needed: what is taken of it is
 // stored at next, before which stand the positions taken already. Answers the next place.
 fn take_position(
-    p: u32,
+    p: u16,
     sign: i8,
     n: u32,
     left: usize,
@@ -223,16 +199,16 @@ fn take_position(
     requires { TakePosition p n need next (length positions.old) (length signs.old) }
     ensures { StoredDrawn (part_positions n need left (take next positions.old) (drawn_as p sign ∷ [])) positions.old signs.old next positions.new signs.new result }
 {
-    if is_in(&positions[..next], p) {
+    if positions[..next].contains(&p) {
         if need <= left {
             return next;
         }
         let place = next_free(&positions[..next], n, p);
-        positions[next] = place as u16;
+        positions[next] = place;
         signs[next] = sign;
         next + 1
     } else {
-        positions[next] = p as u16;
+        positions[next] = p;
         signs[next] = sign;
         next + 1
     }
@@ -260,7 +236,7 @@ fn positions_stretch(
         if next == end {
             return next;
         }
-        let p = candidate(stretch, 3, bits, j);
+        let p = candidate(stretch, 3, bits, j) as u16;
         let sign = sign_at(stretch, j);
         j += 1;
         next = take_position(

@@ -1,13 +1,15 @@
 -- The goals of `sampling::next_free` that want an answer by hand. Assumes nothing.
-use borrow.Author.Rules.{rules}
-use Rattle.sampling.proofs.PositionSteps.{freeing_on, freeing_here, freeing_out}
+use mathlib.Core.Path.{sym, ◌∙◌}
+use native.Mathlib.Omega.{arith}
+use Rattle.sampling.proofs.PositionSteps.{contained, freeing_on, freeing_here, freeing_out}
 use Rattle.sampling.proofs.next_free.Goals as goal
 
-pub loop-steps-preserved : goal.loop-steps-preserved
-loop-steps-preserved c = search (freeing_on, rules)
+pub loop-preserved : goal.loop-preserved
+loop-preserved c =
+    freeing_on c.loop.invariant (sym (contained _ _ c.contains.ensures.value) ∙ c.if-not-contains.false) (omega arith) c.upward-at.ensures
 
-pub returns-else-is_in : goal.returns-else-is_in
-returns-else-is_in c = search (freeing_here, rules)
+pub returns-then-not-contains : goal.returns-then-not-contains
+returns-then-not-contains c = freeing_here c.loop.invariant (sym (contained _ _ c.contains.ensures.value) ∙ c.if-not-contains.true)
 
 pub returns : goal.returns
-returns c = search (freeing_out, rules)
+returns c = freeing_out c.loop.invariant (omega arith)
