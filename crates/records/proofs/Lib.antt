@@ -1,5 +1,5 @@
 pub mod PieceLaws
+pub mod Scans
 pub mod PublicSteps
 pub mod SecretSteps
-pub mod SetISteps
 pub mod Determined

@@ -1,137 +1,51 @@
 -- The steps of reading and writing a public record: one t_i in its own stretch, then all of them, then the record.
 -- Assumes nothing.
 use mathlib.Core.Path.{◌≡◌, refl, sym, ap, ap₂, ◌∙◌}
-use mathlib.Core.Bool.{Bool, true, false, not}
+use mathlib.Core.Bool.{Bool, true, false}
 use mathlib.Core.List.{List, ◌++◌, append-nil, append_assoc}
-use Prim.Native.Nat.{ℕ, ◌+◌, ◌*◌, ◌-◌, ◌≤◌, ◌<◌, zero-le}
-use native.Mathlib.Nat.{le_antisymm, mul_comm, add-sub_cancel_left}
+use Prim.Native.Nat.{ℕ, ◌+◌, ◌*◌, ◌-◌, ◌≤◌, ◌<◌}
+use native.Mathlib.Nat.{le_antisymm, mul_comm}
 use native.Mathlib.Numerals.{add-one}
 use native.Mathlib.Omega.{arith}
-use lib.Dec.{ltb}
-use lib.ListN.{length, get_or, take, drop, length-drop, length-append}
+use lib.Dec.{eqb, ltb}
+use lib.ListN.{length, take, drop, length-append}
 use lib.Seq.{length-take-le}
-use borrow.Author.Tests.{lt-ltb, le-ltb, eqb-true}
-use Rattle.whole.specs.BelowLaws.{below_more}
+use borrow.Author.Tests.{eqb-true}
 use Rattle.whole.specs.Every.{every, each_below}
-use Rattle.whole.specs.EveryLaws.{Passing, passing_more, passing_fails, passing_all, every_joined, each_below_none, each_below_more, each_below_fails, each_below_end}
-use Rattle.whole.specs.Parts.{part_length}
-use Rattle.whole.specs.Rows.{row_fits}
-use Rattle.whole.specs.RowFill.{Filling, filling_none, filling_length, filling_fits, filling_lent, filling_more, filling_all}
+use Rattle.whole.specs.EveryLaws.{every_joined, each_below_all, each_below_fails}
+use Rattle.whole.specs.RowFill.{Filling, filling_none, filling_more, filling_all}
 use Rattle.whole.specs.Table.{joined}
 use Rattle.whole.specs.TableLaws.{joined_length}
-use Rattle.whole.specs.Written.{lent_rest, put_rest, Written, written_kept, written_length, written_more}
+use Rattle.whole.specs.Written.{Written, written_kept, written_length, written_more}
 use Rattle.answers.specs.ResultLaws.{passed_ok}
 use Rattle.answers.specs.Tests.{Answered, AllPass}
-use Rattle.answers.specs.TestLaws.{holds, misses}
-use Rattle.packing.specs.Digits.{bytes_for, packed, unpacked, Packs, Unpacks}
+use Rattle.packing.specs.Digits.{packed}
 use Rattle.sets.specs.declared.Numbers.{Numbers}
 use Rattle.sets.specs.Good.{Good}
-use Rattle.sets.specs.GoodLaws.{n_few}
 use Rattle.sets.specs.Known.{Known, known_good}
-use Rattle.sets.specs.SetI.{set_i, good_i}
+use Rattle.records.specs.ChunksLaws.{Rows, Ahead, Comes, ahead_begins}
+use Rattle.std.specs.Iterator.Adapters.{enumerate_source, enumerate_count}
+use Rattle.std.specs.Slice.Iter.{chunks_exact_rest, chunks_exact_size}
 use Rattle.records.specs.Layout.{t_bytes, polynomial, mark}
 use Rattle.records.specs.Pieces.{standing_mark, standing_next, standing_copy, standing_all}
 use Rattle.records.specs.Public.{t_of, all_t, t_in_range, packed_t, public_record, seed_a_of, public_tests, read_public_tests, write_public_tests}
-use Rattle.records.specs.Asks.{ReadsT, PacksT, ScansT, LongPublic, ReadsAllT, PacksAllT, PutsPublic, TakesPublic}
+use Rattle.records.specs.Asks.{PacksT, ReadsAllT, PacksAllT, PutsPublic, TakesPublic}
 use Rattle.records.specs.SizeLaws.{stretch_fits}
 use Rattle.records.specs.PublicLaws.{t_of_length, polynomial_length, polynomial_below, packed_t_length_lem, packed_t_length, t_in_range_below}
 
--- ---- one t_i is read
-
-module _ {s : Numbers} {public out : List ℕ} {i len start : ℕ} (r : ReadsT s public i out) (e : len ≡ t_bytes s) (f : start ≡ 2 + t_bytes s * i) where
-  pub read_fits : start + len ≤ length public
-  read_fits = rw (e, f) (stretch_fits s public i r.long r.inside)
-
-  pub read_unpacks : Unpacks s.t_bits (take (start + len - start) (drop start public)) out
-  read_unpacks =
-      record {
-        wide = r.good.t_byte;
-        narrow = r.good.t_word;
-        exact = rw (add-sub_cancel_left start len) (part_length start len public read_fits) ∙ e ∙ ap (bytes_for s.t_bits) (sym r.room);
-      }
-
-  pub read_is : {new : List ℕ} → new ≡ unpacked s.t_bits (length out) (take (start + len - start) (drop start public)) → new ≡ t_of s public i
-  unfolding t_of
-  read_is g = g ∙ rw (add-sub_cancel_left start len, e, f, r.room)
-
--- ---- one t_i is written
-
-module _ {s : Numbers} {t public : List ℕ} {i start : ℕ} (p : PacksT s t i public) (f : start ≡ 2 + t_bytes s * i) where
-  pub write_fits : start + t_bytes s ≤ length public
-  write_fits = rw f (stretch_fits s public i p.long p.inside)
-
-  pub write_packs : Packs s.t_bits t (take (length public - start) (drop start public))
-  write_packs =
-      record {
-        wide = p.good.t_byte;
-        narrow = p.good.t_word;
-        below = below_more t p.good.t_fits p.below;
-        few = omega (arith, n_few p.good, p.polynomial);
-        room = rw (lent_rest, p.polynomial) (omega (arith, write_fits, length-drop start public));
-      }
-
-  pub write_is : {ys : List ℕ}
-      → ys ≡ packed s.t_bits t ++ drop (bytes_for s.t_bits (length t)) (take (length public - start) (drop start public))
-      → take start public ++ (ys ++ drop (length public - start) (drop start public))
-      ≡ take (2 + t_bytes s * i) public ++ (packed s.t_bits t ++ drop (2 + t_bytes s * i + t_bytes s) public)
-  write_is g = put_rest start (bytes_for s.t_bits (length t)) public (packed s.t_bits t) g ∙ rw (p.polynomial, f)
-
--- ---- the range of t
-
-abbrev pub Testing : ℕ → List ℕ → ℕ → Type 0
-Testing q t i = Passing (λ v. ltb v q) t i
-
-module _ (s : Numbers) (t : List ℕ) {i : ℕ} (p : Testing s.q t i) where
-  pub testing_more : {next : ℕ} → i < length t → get_or t i 0 < s.q → next ≡ i + 1 → Testing s.q t next
-  testing_more l h n = passing_more p 0 l (lt-ltb (get_or t i 0) s.q h) n
-
-  pub testing_fails : i < length t → s.q ≤ get_or t i 0 → false ≡ t_in_range s t
-  unfolding t_in_range
-  testing_fails l h = passing_fails p 0 l (le-ltb (get_or t i 0) s.q h)
-
-  pub testing_all : length t ≤ i → true ≡ t_in_range s t
-  unfolding t_in_range
-  testing_all l = passing_all p l
-
 -- ---- the range of t_1..t_k
-
--- t_1..t_i are in range
-pub record Ranging (s : Numbers) (public old scratch : List ℕ) (i : ℕ) : Type 0 where
-  pub near : i ≤ s.k
-  pub long : length scratch ≡ length old
-  pub passed : each_below i (λ j. t_in_range s (t_of s public j)) ≡ true
-
-pub ranging_none : (s : Numbers) (public old : List ℕ) → Ranging s public old old 0
-ranging_none s public old = record { near = zero-le; long = refl; passed = each_below_none (λ j. t_in_range s (t_of s public j)) }
 
 each_range : (s : Numbers) (public : List ℕ) → t_in_range s (all_t s public) ≡ each_below s.k (λ j. t_in_range s (t_of s public j))
 unfolding t_in_range all_t
 each_range s public = every_joined (λ v. ltb v s.q) s.k (t_of s public)
 
-module _ {s : Numbers} {public old scratch : List ℕ} {i : ℕ} (p : Ranging s public old scratch i) where
-  pub ranging_reads : ScansT s public old → i < s.k → ReadsT s public i scratch
-  ranging_reads q l =
-      record {
-        good = q.good;
-        long = q.long;
-        inside = l;
-        room = p.long ∙ q.room;
-      }
+-- the first i are in range, and there are no more; or t_(i + 1) is not
+module _ (s : Numbers) (public : List ℕ) {i : ℕ} where
+  pub all_in_range : s.k ≤ i → ((j : ℕ) → j < i → t_in_range s (t_of s public j) ≡ true) → true ≡ t_in_range s (all_t s public)
+  all_in_range l h = sym (each_range s public ∙ each_below_all s.k (λ j. t_in_range s (t_of s public j)) (λ j m. h j (omega arith)))
 
-  module _ {r : Bool} (l : i < s.k) (f : r ≡ t_in_range s (t_of s public i)) where
-    pub ranging_more : {new : List ℕ} {next : ℕ} → length new ≡ length scratch → not r ≡ false → next ≡ i + 1 → Ranging s public old new next
-    ranging_more e g n =
-        record {
-          near = omega arith;
-          long = e ∙ p.long;
-          passed = each_below_more (λ j. t_in_range s (t_of s public j)) p.passed (holds f g) n;
-        }
-
-    pub ranging_fails : not r ≡ true → false ≡ t_in_range s (all_t s public)
-    ranging_fails g = sym (each_range s public ∙ each_below_fails s.k i (λ j. t_in_range s (t_of s public j)) l (misses f g))
-
-  pub ranging_all : s.k ≤ i → true ≡ t_in_range s (all_t s public)
-  ranging_all l = sym (each_range s public ∙ each_below_end _ p.near l p.passed)
+  pub one_outside : i < s.k → t_in_range s (t_of s public i) ≡ false → false ≡ t_in_range s (all_t s public)
+  one_outside l h = sym (each_range s public ∙ each_below_fails s.k i (λ j. t_in_range s (t_of s public j)) l h)
 
 -- ---- t_1..t_k are read
 
@@ -147,15 +61,6 @@ module _ {s : Numbers} {public old : List ℕ} (r : ReadsAllT s public old) wher
   reading_none = filling_none r.room each
 
   module _ {t : List ℕ} {i : ℕ} (p : ReadingT s public old t i) where
-    pub reading_length : length t ≡ length old
-    reading_length = filling_length r.room each p
-
-    pub reading_fits : i < s.k → s.n * i + s.n ≤ length t
-    reading_fits l = filling_fits r.room each p l
-
-    pub reading_reads : i < s.k → ReadsT s public i (take (s.n * i + s.n - s.n * i) (drop (s.n * i) t))
-    reading_reads l = record { good = r.good; long = r.long; inside = l; room = filling_lent r.room each p l }
-
     pub reading_more : {ys : List ℕ} {next : ℕ} → i < s.k → ys ≡ t_of s public i → next ≡ i + 1
         → ReadingT s public old (take (s.n * i) t ++ (ys ++ drop (s.n * i + s.n - s.n * i) (drop (s.n * i) t))) next
     reading_more {ys} l e n = rw n (filling_more r.room each p l ys e)
@@ -170,70 +75,69 @@ module _ {s : Numbers} {public old : List ℕ} (r : ReadsAllT s public old) wher
 abbrev packed_of : Numbers → List ℕ → ℕ → List ℕ
 packed_of s t j = packed s.t_bits (polynomial s.n j t)
 
--- packed t_1..t_i stand in the record after its mark
-pub record WritingT (s : Numbers) (t old public : List ℕ) (i : ℕ) : Type 0 where
-  pub near : i ≤ s.k
-  pub done : Written (take 2 old ++ joined i (λ j. packed s.t_bits (polynomial s.n j t))) old public
+piece_size : (s : Numbers) (t : List ℕ) → length t ≡ s.k * s.n → (j : ℕ) → j < s.k → length (packed_of s t j) ≡ t_bytes s
+piece_size s t long j l = packed_t_length_lem s (polynomial s.n j t) (polynomial_length s.n s.k j t long l)
 
-pub writing_none : {s : Numbers} {t old : List ℕ} → PacksAllT s t old → WritingT s t old old 0
-unfolding joined
-writing_none {s} {t} {old} r =
-    record {
-      near = zero-le;
-      done = rw (append-nil (take 2 old)) (written_kept 2 old (omega (arith, r.long)));
-    }
+-- packed t_1..t_i stand in the record after its mark, and t_(i + 1) comes next
+pub record WritingT (s : Numbers) (t old public : List ℕ) (it : Rows) : Type 0 where
+  pub near : enumerate_count it ≤ s.k
+  pub ahead : Ahead s.n t it
+  pub done : Written (take 2 old ++ joined (enumerate_count it) (packed_of s t)) old public
 
-module _ {s : Numbers} {t old public : List ℕ} {i : ℕ} (r : PacksAllT s t old) (p : WritingT s t old public i) where
-  pub writing_length : length public ≡ length old
-  writing_length = written_length p.done
-
-  pub writing_fits : i < s.k → s.n * i + s.n ≤ length t
-  writing_fits l = omega (arith, row_fits s.n s.k i l, r.polynomials)
-
-  pub writing_packs : i < s.k → PacksT s (take (s.n * i + s.n - s.n * i) (drop (s.n * i) t)) i public
-  writing_packs l =
-      rw (add-sub_cancel_left (s.n * i) s.n)
-      (record {
-        good = r.good;
-        polynomial = polynomial_length s.n s.k i t r.polynomials l;
-        below = polynomial_below s.q s.n i t r.below;
-        inside = l;
-        long = writing_length ∙ r.long;
-      })
-
-  piece_size : (j : ℕ) → j < s.k → length (packed_of s t j) ≡ t_bytes s
-  piece_size j l = packed_t_length_lem s (polynomial s.n j t) (polynomial_length s.n s.k j t r.polynomials l)
-
-  so_far_written : length (take 2 old ++ joined i (packed_of s t)) ≡ 2 + t_bytes s * i
-  so_far_written =
-      length-append (take 2 old) (joined i (packed_of s t))
-      ∙ ap₂ ◌+◌ (length-take-le 2 old (omega (arith, r.long)))
-      (joined_length i (t_bytes s) (packed_of s t) (λ j l. piece_size j (omega (arith, p.near))) ∙ mul_comm i (t_bytes s))
-
-  pub writing_more : {new : List ℕ} {next : ℕ} → i < s.k
-      → new
-      ≡ take (2 + t_bytes s * i) public
-      ++ (packed s.t_bits (take (s.n * i + s.n - s.n * i) (drop (s.n * i) t)) ++ drop (2 + t_bytes s * i + t_bytes s) public)
-      → next ≡ i + 1 → WritingT s t old new next
+module _ {s : Numbers} {t old : List ℕ} (r : PacksAllT s t old) where
+  pub writing_none : {it : Rows} → chunks_exact_size (enumerate_source it) ≡ s.n → chunks_exact_rest (enumerate_source it) ≡ t
+      → enumerate_count it ≡ 0 → WritingT s t old old it
   unfolding joined
-  writing_more {new} l e n =
-      rw (n, add-one)
-      (record {
-        near = l;
-        done =
-            rw (← append_assoc (take 2 old) (joined i (packed_of s t)) (packed_of s t i))
-            (written_more p.done (2 + t_bytes s * i) (t_bytes s) (packed_of s t i) (sym so_far_written) (piece_size i l)
-            (stretch_fits s old i r.long l) (rw (add-sub_cancel_left (s.n * i) s.n) at e));
-      })
+  writing_none {it} size rest e =
+      record {
+        near = omega arith;
+        ahead = ahead_begins s.n t it size rest e;
+        done = rw (e, append-nil (take 2 old)) (written_kept 2 old (omega (arith, r.long)));
+      }
 
-  pub writing_all : s.k ≤ i → public ≡ take 2 old ++ (packed_t s t ++ drop (2 + s.k * t_bytes s) old)
-  unfolding packed_t
-  writing_all l =
-      let e : i ≡ s.k = le_antisymm p.near l in
-      p.done.is
-      ∙ ap (λ (a : ℕ). (take 2 old ++ joined i (packed_of s t)) ++ drop a old) (so_far_written ∙ ap (λ (a : ℕ). 2 + a) (mul_comm (t_bytes s) i))
-      ∙ append_assoc (take 2 old) (joined i (packed_of s t)) (drop (2 + i * t_bytes s) old)
-      ∙ ap (λ (j : ℕ). take 2 old ++ (joined j (packed_of s t) ++ drop (2 + j * t_bytes s) old)) e
+  module _ {public : List ℕ} {it : Rows} (p : WritingT s t old public it) where
+    so_far_written : length (take 2 old ++ joined (enumerate_count it) (packed_of s t)) ≡ 2 + t_bytes s * enumerate_count it
+    so_far_written =
+        length-append (take 2 old) (joined (enumerate_count it) (packed_of s t))
+        ∙ ap₂ ◌+◌ (length-take-le 2 old (omega (arith, r.long)))
+        (joined_length (enumerate_count it) (t_bytes s) (packed_of s t) (λ j l. piece_size s t r.polynomials j (omega (arith, p.near))) ∙ mul_comm (enumerate_count it) (t_bytes s))
+
+    module _ {next : Rows} {i : ℕ} {x : List ℕ} (c : Comes s t it next i x) where
+      pub writing_packs : PacksT s x i public
+      writing_packs =
+          rw c.is
+          (record {
+            good = r.good;
+            polynomial = polynomial_length s.n s.k i t r.polynomials c.inside;
+            below = polynomial_below s.q s.n i t r.below;
+            inside = c.inside;
+            long = written_length p.done ∙ r.long;
+          })
+
+      pub writing_more : {new : List ℕ}
+          → new ≡ take (2 + t_bytes s * i) public ++ (packed s.t_bits x ++ drop (2 + t_bytes s * i + t_bytes s) public)
+          → WritingT s t old new next
+      unfolding joined
+      writing_more {new} e =
+          record {
+            near = omega (arith, c.inside, c.counted);
+            ahead = c.ahead;
+            done =
+                rw (c.counted, c.at, add-one, ← append_assoc (take 2 old) (joined (enumerate_count it) (packed_of s t)) (packed_of s t (enumerate_count it)))
+                (written_more p.done (2 + t_bytes s * enumerate_count it) (t_bytes s) (packed_of s t (enumerate_count it)) (sym so_far_written)
+                (piece_size s t r.polynomials (enumerate_count it) (rw c.at at c.inside))
+                (stretch_fits s old (enumerate_count it) r.long (rw c.at at c.inside)) (rw (c.is, c.at) at e));
+          }
+
+    pub writing_all : s.k ≤ enumerate_count it → public ≡ take 2 old ++ (packed_t s t ++ drop (2 + s.k * t_bytes s) old)
+    unfolding packed_t
+    writing_all l =
+        let e : enumerate_count it ≡ s.k = le_antisymm p.near l in
+        rw (← e)
+        (p.done.is
+        ∙ ap (λ (a : ℕ). (take 2 old ++ joined (enumerate_count it) (packed_of s t)) ++ drop a old)
+        (so_far_written ∙ ap (λ (a : ℕ). 2 + a) (mul_comm (t_bytes s) (enumerate_count it)))
+        ∙ append_assoc (take 2 old) (joined (enumerate_count it) (packed_of s t)) (drop (2 + enumerate_count it * t_bytes s) old))
 
 -- ---- reading
 
@@ -285,8 +189,3 @@ write_puts {s} {t} good a =
       seed = eqb-true _ _ p.1.0;
       long = eqb-true _ _ p.1.1.0;
     }
-
--- ---- set I
-
-pub scans_i : {s : Numbers} {public scratch : List ℕ} → s ≡ set_i → LongPublic s public → length scratch ≡ 1024 → ScansT s public scratch
-scans_i e p l = record { good = good_i e; long = p.long; room = rw e l }

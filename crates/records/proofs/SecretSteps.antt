@@ -1,15 +1,14 @@
 -- The steps of reading and writing a secret record.
 -- Assumes nothing.
 use mathlib.Core.Path.{◌≡◌, refl, ap, ◌∙◌}
-use mathlib.Core.Bool.{true, false, not}
+use mathlib.Core.Bool.{Bool, true}
 use mathlib.Core.List.{List, ◌++◌, append_assoc}
-use Prim.Native.Nat.{ℕ, ◌+◌, ◌*◌, ◌-◌, ◌≤◌, ◌<◌}
+use Prim.Native.Nat.{ℕ, ◌+◌, ◌*◌, ◌-◌}
 use native.Mathlib.Omega.{arith}
 use lib.Dec.{eqb}
-use lib.ListN.{length, get_or, take, drop}
-use borrow.Author.Tests.{eq-eqb, ne_eqb, eqb-true}
+use lib.ListN.{length, take, drop}
+use borrow.Author.Tests.{eqb-true}
 use Rattle.whole.specs.Every.{every}
-use Rattle.whole.specs.EveryLaws.{Passing, passing_more, passing_fails, passing_all}
 use Rattle.answers.specs.ResultLaws.{passed_ok}
 use Rattle.answers.specs.Tests.{Answered, AllPass}
 use Rattle.sets.specs.declared.Numbers.{Numbers}
@@ -17,26 +16,9 @@ use Rattle.sets.specs.Good.{Good}
 use Rattle.sets.specs.Limits.{seed_bytes}
 use Rattle.records.specs.Layout.{mark}
 use Rattle.records.specs.Pieces.{standing_kept, standing_mark, standing_copy, standing_take, standing_all}
-use Rattle.records.specs.Secret.{secret_record, s_of, all_e, secret_seed_a, secret_seed_y, secret_g, in_byte_range, byte_tests, secret_tests, read_secret_tests, write_secret_tests}
+use Rattle.records.specs.Secret.{secret_record, s_of, all_e, secret_seed_a, secret_seed_y, secret_g, byte_tests, secret_tests, read_secret_tests, write_secret_tests}
 use Rattle.records.specs.SecretLaws.{s_lent, e_lent}
 use Rattle.records.specs.Asks.{SecretPlaces, TailPlaces}
-
--- ---- the range of secret bytes
-
-abbrev pub Testing : List ℕ → ℕ → Type 0
-Testing bytes i = Passing (λ b. not (eqb b 128)) bytes i
-
-module _ (bytes : List ℕ) {i : ℕ} (p : Testing bytes i) where
-  pub testing_more : {next : ℕ} → i < length bytes → (get_or bytes i 0 ≡ 128 → ⊥) → next ≡ i + 1 → Testing bytes next
-  testing_more l h n = passing_more p 0 l (ap not (ne_eqb (get_or bytes i 0) 128 h)) n
-
-  pub testing_fails : i < length bytes → get_or bytes i 0 ≡ 128 → false ≡ in_byte_range bytes
-  unfolding in_byte_range
-  testing_fails l h = passing_fails p 0 l (ap not (eq-eqb (get_or bytes i 0) 128 h))
-
-  pub testing_all : length bytes ≤ i → true ≡ in_byte_range bytes
-  unfolding in_byte_range
-  testing_all l = passing_all p l
 
 -- s and e where they stand in a record
 pub bytes_lent : (set : Numbers) (secret : List ℕ) {middle end number : ℕ} → middle ≡ 2 + set.n → end ≡ 2 + set.n + set.k * set.n
@@ -66,16 +48,6 @@ read_takes good a =
     }
 
 module _ {set : Numbers} {secret s e seed_a seed_y g : List ℕ} (p : SecretPlaces set secret s e seed_a seed_y g) where
-  pub takes_tail : TailPlaces set secret seed_a seed_y g
-  takes_tail =
-      record {
-        good = p.good;
-        long = p.long;
-        seed_a_long = p.lengths.seed_a_long;
-        seed_y_long = p.lengths.seed_y_long;
-        g_long = p.lengths.g_long;
-      }
-
   -- the values, each from its own stretch
   pub take_s : {new : List ℕ} → new ≡ take (length s) (drop 2 secret) → new ≡ s_of set secret
   unfolding s_of

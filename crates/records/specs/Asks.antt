@@ -8,10 +8,6 @@ use Rattle.records.specs.Layout.{public_bytes, secret_bytes}
 
 -- ---- pieces
 
--- what `copy_in` asks: every byte has a place
-pub record Copies (from to : List ℕ) : Type 0 where
-  pub room : length from ≤ length to
-
 -- what `copy_at` asks: every byte has a place from `at` on
 pub record CopiesAt (from to : List ℕ) (at : ℕ) : Type 0 where
   pub room : at + length from ≤ length to

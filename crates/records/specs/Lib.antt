@@ -3,6 +3,7 @@ pub mod Pieces
 pub mod Public
 pub mod PublicLaws
 pub mod SizeLaws
+pub mod ChunksLaws
 pub mod Secret
 pub mod SecretLaws
 pub mod Asks

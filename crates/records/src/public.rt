@@ -20,7 +20,7 @@ pub fn t_bytes(set: Numbers) -> usize
     requires { Good set }
     ensures { result ≡ t_bytes set }
 {
-    (set.t_bits as usize * set.n + 7) / 8
+    (set.t_bits as usize * set.n).div_ceil(8)
 }
 
 // Where packed t_(i + 1) starts: after the mark and t_1..t_i.
@@ -51,18 +51,11 @@ pub fn public_bytes(set: Numbers) -> usize
 pub fn t_in_range(set: Numbers, t: &[u32]) -> bool
     ensures { result ≡ t_in_range set t.now }
 {
-    let q = set.q;
-    let mut i = 0;
-    while i < t.len() {
-        if q <= t[i] {
-            return false;
-        }
-        i += 1;
-    }
-    true
+    t.iter().all(|v| *v < set.q)
 }
 
 // out = t_(i + 1), read from its own stretch of the record.
+#[tactic(auto, unfolding(crate::specs::Public::t_of))]
 pub fn unpack_t(set: Numbers, public: &[u8], i: usize, out: &mut [u32])
     requires { ReadsT set public.now i out.old }
     ensures { out.new ≡ t_of set public.now i }
@@ -95,13 +88,10 @@ fn t_passes_in(set: Numbers, public: &[u8], scratch: &mut [u32]) -> bool
     requires { ScansT set public.now scratch.old }
     ensures { result ≡ t_in_range set (all_t set public.now) }
 {
-    let k = set.k;
-    let mut i = 0;
-    while i < k {
+    for i in 0..set.k {
         if !passes(set, public, i, scratch) {
             return false;
         }
-        i += 1;
     }
     true
 }
@@ -151,13 +141,10 @@ fn unpack_all(set: Numbers, public: &[u8], t: &mut [u32])
     requires { ReadsAllT set public.now t.old }
     ensures { t.new ≡ all_t set public.now }
 {
+    // By index: the contract of `chunks_exact_mut` does not say what t holds afterwards.
     let n = set.n;
-    let k = set.k;
-    let mut i = 0;
-    while i < k {
-        let start = n * i;
-        unpack_t(set, public, i, &mut t[start..start + n]);
-        i += 1;
+    for i in 0..set.k {
+        unpack_t(set, public, i, &mut t[n * i..n * i + n]);
     }
 }
 
@@ -166,13 +153,8 @@ fn pack_all(set: Numbers, t: &[u32], public: &mut [u8])
     requires { PacksAllT set t.now public.old }
     ensures { public.new ≡ take 2 public.old ++ (packed_t set t.now ++ drop (2 + set.k * t_bytes set) public.old) }
 {
-    let n = set.n;
-    let k = set.k;
-    let mut i = 0;
-    while i < k {
-        let start = n * i;
-        pack_t(set, &t[start..start + n], i, public);
-        i += 1;
+    for (i, t_i) in t.chunks_exact(set.n).enumerate() {
+        pack_t(set, t_i, i, public);
     }
 }
 

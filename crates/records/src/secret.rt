@@ -54,17 +54,11 @@ pub fn secret_bytes(set: Numbers) -> usize
 }
 
 // Whether no byte is −128.
+#[tactic(auto, using(crate::proofs::Scans::every_not), unfolding(crate::specs::Secret::in_byte_range))]
 pub fn in_byte_range(bytes: &[u8]) -> bool
     ensures { result ≡ in_byte_range bytes.now }
 {
-    let mut i = 0;
-    while i < bytes.len() {
-        if bytes[i] == 128 {
-            return false;
-        }
-        i += 1;
-    }
-    true
+    !bytes.contains(&128)
 }
 
 // The tests of s and e_1..e_k: no byte is −128.

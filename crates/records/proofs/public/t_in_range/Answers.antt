@@ -1,13 +1,11 @@
--- The goals of `records::public::t_in_range` that want an answer by hand. Assumes nothing.
-use borrow.Author.Rules.{rules}
-use Rattle.records.proofs.PublicSteps.{testing_more, testing_fails, testing_all}
+-- The goal of `records::public::t_in_range` that wants an answer by hand. Assumes nothing.
+use Rattle.std.proofs.Common.{rules, ◌∙◌, tests}
+use Rattle.std.proofs.lemmas.Iterator.{YieldsList-from_slice}
+use Rattle.std.proofs.lemmas.Iterator.Search.{all_from_yields_List}
+use Rattle.records.specs.Public.{t_in_range}
+use Rattle.records.proofs.Scans.{every_is}
 use Rattle.records.proofs.public.t_in_range.Goals as goal
 
-pub returns-then-q-t : goal.returns-then-q-t
-returns-then-q-t c = search (testing_fails, rules)
-
-pub loop-i-preserved : goal.loop-i-preserved
-loop-i-preserved c = search (testing_more, rules)
-
 pub returns : goal.returns
-returns c = search (testing_all, rules)
+unfolding t_in_range
+returns c = all_from_yields_List _ _ _ _ c.all.ensures.ran (YieldsList-from_slice c.args.t.now cc) (λ x b q k. search (rules, tests)) ∙ every_is _ _
