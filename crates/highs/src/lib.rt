@@ -10,7 +10,7 @@ ghost use Rattle.sampling.specs.Residues.{Residues};
 ghost use Rattle.highs.specs.Highs.{Held, Adds, Hashes};
 ghost use Rattle.highs.specs.Asks.{Absorbs};
 
-use sets::{Numbers, SEED_BYTES, SetI};
+use sets::{Numbers, SEED_BYTES, SetI, Stream};
 use shake::Sponge;
 
 #[derive(Drop)]
@@ -27,7 +27,7 @@ pub fn no_highs(set: Numbers) -> Highs
     ensures { Held set [] result }
 {
     Highs {
-        state: set.fresh_challenge(),
+        state: set.fresh(Stream::Challenge),
         fit: true,
     }
 }

@@ -12,7 +12,7 @@ ghost use Rattle.sets.specs.SetI.{set_i};
 ghost use Rattle.keys.specs.Promises.{MakesKey};
 
 use answers::Refusal;
-use sets::{Numbers, SetI};
+use sets::{Numbers, Set, SetI};
 
 // Makes a key, with every test first.
 fn make(

@@ -12,7 +12,7 @@ ghost use Rattle.sets.specs.SetI.{set_i};
 ghost use Rattle.records.specs.Promises.{WritesPublic, ReadsPublic, WritesSecret, ReadsSecret};
 
 use answers::Refusal;
-use sets::SetI;
+use sets::{Set, SetI};
 
 // The public record of t, t_1..t_k in a row, and seed_a.
 pub fn write_public(t: &[u32], seed_a: &[u8], public: &mut [u8]) -> Result<(), Refusal>

@@ -96,26 +96,25 @@ fn t_passes_in(set: Numbers, public: &[u8], scratch: &mut [u32]) -> bool
     true
 }
 
-// The same in set I: makes the scratch.
-fn t_passes_i(set: Numbers, public: &[u8]) -> bool
-    requires set_value { set ≡ set_i }
+// The same with scratch of its own, of N places.
+fn t_passes_of<const N: usize>(set: Numbers, public: &[u8]) -> bool
+    requires good { Good set }
+    requires n_is { set.n ≡ N }
     requires long_public { LongPublic set public.now }
     ensures { result ≡ t_in_range set (all_t set public.now) }
 {
-    let mut scratch = [0u32; SetI::N];
+    let mut scratch = [0u32; N];
     t_passes_in(set, public, &mut scratch)
 }
 
 // The same in every set that there is.
-pub fn t_passes(set: Numbers, public: &[u8]) -> bool
-    requires known { Known set }
-    requires long_public { LongPublic set public.now }
-    ensures { result ≡ t_in_range set (all_t set public.now) }
+pub fn t_passes(set: Set, public: &[u8]) -> bool
+    requires { LongPublic set.numbers public.now }
+    ensures { result ≡ t_in_range set.numbers (all_t set.numbers public.now) }
 {
-    let digit = set.digit;
-    match digit {
-        1 => t_passes_i(set, public),
-        _ => false,
+    match set.numbers.digit {
+        1 => t_passes_of::<{ SetI::N }>(set.numbers, public),
+        _ => unreachable!(),
     }
 }
 

@@ -6,7 +6,7 @@ ghost use Rattle.sampling.specs.Streams.{rand_of, message_digest, key_digest};
 ghost use Rattle.sampling.specs.Asks.{Digest};
 ghost use Rattle.sampling.specs.Promises.{ClosesMessage};
 
-use sets::Numbers;
+use sets::{Numbers, Stream};
 use shake::Sponge;
 
 // G of the message that state has absorbed, in whatever pieces, after the mark of stream 4: into out.
@@ -22,7 +22,7 @@ pub fn joined_digest(set: Numbers, front: &[u8], rest: &[u8], out: &mut [u8])
     requires { Digest set digest_bytes (length out.old) }
     ensures { out.new ≡ message_digest set (front.now ++ rest.now) }
 {
-    close_message(set, set.fresh_message().absorb(front).absorb(rest), out)
+    close_message(set, set.fresh(Stream::Message).absorb(front).absorb(rest), out)
 }
 
 // G of the message, into out.
@@ -38,7 +38,7 @@ pub fn key_digest(set: Numbers, packed_t: &[u8], out: &mut [u8])
     requires { Digest set digest_bytes (length out.old) }
     ensures { out.new ≡ key_digest set packed_t.now }
 {
-    set.fresh_key().absorb(packed_t).squeeze(out);
+    set.fresh(Stream::Key).absorb(packed_t).squeeze(out);
 }
 
 // rand of seed_y, r and G of the message, into out.
@@ -46,7 +46,7 @@ pub fn rand_of(set: Numbers, seed_y: &[u8], r: &[u8], digest: &[u8], out: &mut [
     requires { Digest set seed_bytes (length out.old) }
     ensures { out.new ≡ rand_of set seed_y.now r.now digest.now }
 {
-    set.fresh_rand()
+    set.fresh(Stream::Rand)
         .absorb(seed_y)
         .absorb(r)
         .absorb(digest)

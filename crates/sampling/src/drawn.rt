@@ -11,7 +11,7 @@ ghost use Rattle.sampling.specs.Asks.{DrawY, Less, DrawEnc, PlacesDrawn, NextA};
 ghost use Rattle.sampling.specs.Promises.{StartedA, AfterA};
 
 use crate::{less_stretch, positions_stretch, values_stretch};
-use sets::Numbers;
+use sets::{Numbers, Stream};
 use shake::Sponge;
 
 // ---- y
@@ -22,7 +22,7 @@ fn start_y(set: Numbers, rand: &[u8], counter: u16) -> Sponge
     ensures { result ≡ absorbed (fresh set.digit 2) (rand.now ++ two_bytes counter) }
 {
     let low_first = crate::two_bytes(counter);
-    set.fresh_y().absorb(rand).absorb(&low_first)
+    set.fresh(Stream::Y).absorb(rand).absorb(&low_first)
 }
 
 // The values from 0 to 2b of twice as many candidates as out has places, squeezed at most 136 at a time, each less b, into out.
@@ -77,7 +77,7 @@ pub fn draw_enc(set: Numbers, c: &[u8], positions: &mut [u16], signs: &mut [i8])
     requires { DrawEnc set (length positions.old) (length signs.old) }
     ensures { AreDrawn (enc_of set c.now) positions.new signs.new }
 {
-    let start = set.fresh_enc().absorb(c);
+    let start = set.fresh(Stream::Enc).absorb(c);
     draw_positions(start, set.n as u32, set.position_bits, positions, signs)
 }
 
@@ -101,7 +101,7 @@ pub fn start_a(set: Numbers, seed_a: &[u8]) -> DrawA
 {
     let need = set.k * set.n;
     DrawA {
-        sponge: set.fresh_a().absorb(seed_a),
+        sponge: set.fresh(Stream::A).absorb(seed_a),
         left: 4 * need,
         need,
     }

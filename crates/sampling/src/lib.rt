@@ -19,7 +19,7 @@ ghost use Rattle.sampling.specs.Promises.{Upward, TakesA, TakesY, TakesPositions
 ghost use Rattle.sampling.specs.Stored.{Stored, StoredDrawn};
 
 use answers::Refusal;
-use sets::{Numbers, SetI};
+use sets::{Numbers, Set, SetI};
 
 // ---- numbers as bytes
 

@@ -8,6 +8,10 @@ use Rattle.sets.specs.SetI.{set_i, good_i}
 pub data Known : Numbers → Type 0 where
   known_i : {set : Numbers} → set ≡ set_i → Known set
 
+-- it has one proof at most, so it can stand in a type
+pub known_prop : (set : Numbers) → ((a b : Numbers) → IsProp (a ≡ b)) → IsProp (Known set)
+known_prop set same (known_i e) (known_i f) = ap known_i (same set set_i e f)
+
 pub known_good : {set : Numbers} → Known set → Good set
 known_good (known_i e) = good_i e
 

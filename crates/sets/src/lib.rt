@@ -1,11 +1,14 @@
-// The numbers of a set of parameters with its fresh sponges, the lengths and limits that no set changes, and the two sets: set I,
-// qTESLA-p-I, and set III, qTESLA-p-III. The entries work in set I; no entry takes set III yet.
+// The numbers of a set of parameters with the fresh sponges of its streams, the lengths and limits that no set changes, and the two sets:
+// set I, qTESLA-p-I, and set III, qTESLA-p-III. The entries work in set I; no entry takes set III yet.
 #![tactic(auto)]
 
 ghost use Rattle.std.specs.Prelude.{◌≡◌, ◌<◌};
-ghost use Rattle.sets.specs.Marks.{fresh};
-ghost use Rattle.sets.specs.SetI.{set_i};
-ghost use Rattle.sets.specs.SetIII.{set_iii};
+ghost use Rattle.std.specs.Coded.{Coded-set};
+ghost use Rattle.sets.specs.Good.{Good};
+ghost use Rattle.sets.specs.Known.{Known, known_prop};
+ghost use Rattle.sets.specs.Marks.{stream_number, fresh};
+ghost use Rattle.sets.specs.SetI.{set_i, set_i_good};
+ghost use Rattle.sets.specs.SetIII.{set_iii, set_iii_good};
 
 use shake::Sponge;
 
@@ -52,72 +55,69 @@ pub struct Numbers {
     pub digit: u8,
 }
 
-// The fresh sponge of stream j of the set with this digit: it has absorbed the stream's mark.
-fn fresh_state(digit: u8, j: u8) -> Sponge
-    requires { (digit < 16) × (j < 16) }
-    ensures { result ≡ fresh digit j }
-{
-    let mark = [0x53, 16 * digit + j];
-    Sponge::blank().absorb(&mark)
+// The streams of SHAKE256, each of which begins with a mark of its own.
+#[derive(Clone, Copy, Debug, PartialEq, Eq)]
+pub enum Stream {
+    // a_1..a_k from seed_a
+    A,
+    // y from rand and the counter
+    Y,
+    // rand
+    Rand,
+    // G of the message
+    Message,
+    // g of the packed t_1..t_k
+    Key,
+    // c' of the high parts
+    Challenge,
+    // Enc of c'
+    Enc,
 }
 
-// The fresh sponge of each stream, in any set.
+impl From<Stream> for u8 {
+    // The number of the stream, the second digit of its mark's second byte.
+    ghost from_gives = { λ stream r. r ≡ stream_number stream };
+
+    fn from(stream: Stream) -> u8 {
+        match stream {
+            Stream::A => 1,
+            Stream::Y => 2,
+            Stream::Rand => 3,
+            Stream::Message => 4,
+            Stream::Key => 5,
+            Stream::Challenge => 6,
+            Stream::Enc => 7,
+        }
+    }
+}
+
 impl Numbers {
-    // a_1..a_k from seed_a
-    pub fn fresh_a(self) -> Sponge
+    // The fresh sponge of the stream: it has absorbed the stream's mark in this set.
+    pub fn fresh(self, stream: Stream) -> Sponge
         requires { self.digit < 16 }
-        ensures { result ≡ fresh self.digit 1 }
+        ensures { result ≡ fresh self.digit (stream_number stream) }
     {
-        fresh_state(self.digit, 1)
+        let mark = [0x53, 16 * self.digit + u8::from(stream)];
+        Sponge::blank().absorb(&mark)
+    }
+}
+
+// A set of parameters as a type: the numbers stand with it, and are good.
+pub trait Parameters {
+    ghost use Rattle.sets.specs.declared.Numbers.{Numbers};
+
+    ghost SET: { Numbers };
+
+    // Its numbers as one value.
+    const SET: Numbers;
+
+    fn numbers() -> Numbers
+        ensures { result ≡ SET }
+    {
+        Self::SET
     }
 
-    // y from rand and the counter
-    pub fn fresh_y(self) -> Sponge
-        requires { self.digit < 16 }
-        ensures { result ≡ fresh self.digit 2 }
-    {
-        fresh_state(self.digit, 2)
-    }
-
-    // rand
-    pub fn fresh_rand(self) -> Sponge
-        requires { self.digit < 16 }
-        ensures { result ≡ fresh self.digit 3 }
-    {
-        fresh_state(self.digit, 3)
-    }
-
-    // G of the message
-    pub fn fresh_message(self) -> Sponge
-        requires { self.digit < 16 }
-        ensures { result ≡ fresh self.digit 4 }
-    {
-        fresh_state(self.digit, 4)
-    }
-
-    // g of the packed t_1..t_k
-    pub fn fresh_key(self) -> Sponge
-        requires { self.digit < 16 }
-        ensures { result ≡ fresh self.digit 5 }
-    {
-        fresh_state(self.digit, 5)
-    }
-
-    // c' of the high parts
-    pub fn fresh_challenge(self) -> Sponge
-        requires { self.digit < 16 }
-        ensures { result ≡ fresh self.digit 6 }
-    {
-        fresh_state(self.digit, 6)
-    }
-
-    // Enc of c'
-    pub fn fresh_enc(self) -> Sponge
-        requires { self.digit < 16 }
-        ensures { result ≡ fresh self.digit 7 }
-    {
-        fresh_state(self.digit, 7)
-    }
+    ghost good: { Good SET };
 }
 
 // qTESLA-p-I.
@@ -148,77 +148,27 @@ impl SetI {
     pub const POSITION_BITS: u32 = 10;
 
     pub const DIGIT: u8 = 1;
+}
 
-    // The numbers as one value.
-    pub fn numbers() -> Numbers
-        ensures { result ≡ set_i }
-    {
-        Numbers {
-            n: SetI::N,
-            k: SetI::K,
-            q: SetI::Q,
-            h: SetI::H,
-            e: SetI::E,
-            s: SetI::S,
-            b: SetI::B,
-            d: SetI::D,
-            t_bits: SetI::T_BITS,
-            z_bits: SetI::Z_BITS,
-            position_bits: SetI::POSITION_BITS,
-            digit: SetI::DIGIT,
-        }
-    }
+impl Parameters for SetI {
+    ghost SET = { set_i };
 
-    // The fresh sponge of each stream.
+    ghost good = { set_i_good };
 
-    // a_1..a_k from seed_a
-    pub fn fresh_a() -> Sponge
-        ensures { result ≡ fresh 1 1 }
-    {
-        SetI::numbers().fresh_a()
-    }
-
-    // y from rand and the counter
-    pub fn fresh_y() -> Sponge
-        ensures { result ≡ fresh 1 2 }
-    {
-        SetI::numbers().fresh_y()
-    }
-
-    // rand
-    pub fn fresh_rand() -> Sponge
-        ensures { result ≡ fresh 1 3 }
-    {
-        SetI::numbers().fresh_rand()
-    }
-
-    // G of the message
-    pub fn fresh_message() -> Sponge
-        ensures { result ≡ fresh 1 4 }
-    {
-        SetI::numbers().fresh_message()
-    }
-
-    // g of the packed t_1..t_k
-    pub fn fresh_key() -> Sponge
-        ensures { result ≡ fresh 1 5 }
-    {
-        SetI::numbers().fresh_key()
-    }
-
-    // c' of the high parts
-    pub fn fresh_challenge() -> Sponge
-        ensures { result ≡ fresh 1 6 }
-    {
-        SetI::numbers().fresh_challenge()
-    }
-
-    // Enc of c'
-    pub fn fresh_enc() -> Sponge
-        ensures { result ≡ fresh 1 7 }
-    {
-        SetI::numbers().fresh_enc()
-    }
+    const SET: Numbers = Numbers {
+        n: SetI::N,
+        k: SetI::K,
+        q: SetI::Q,
+        h: SetI::H,
+        e: SetI::E,
+        s: SetI::S,
+        b: SetI::B,
+        d: SetI::D,
+        t_bits: SetI::T_BITS,
+        z_bits: SetI::Z_BITS,
+        position_bits: SetI::POSITION_BITS,
+        digit: SetI::DIGIT,
+    };
 }
 
 // qTESLA-p-III.
@@ -249,75 +199,43 @@ impl SetIII {
     pub const POSITION_BITS: u32 = 11;
 
     pub const DIGIT: u8 = 3;
+}
 
-    // The numbers as one value.
-    pub fn numbers() -> Numbers
-        ensures { result ≡ set_iii }
+impl Parameters for SetIII {
+    ghost SET = { set_iii };
+
+    ghost good = { set_iii_good };
+
+    const SET: Numbers = Numbers {
+        n: SetIII::N,
+        k: SetIII::K,
+        q: SetIII::Q,
+        h: SetIII::H,
+        e: SetIII::E,
+        s: SetIII::S,
+        b: SetIII::B,
+        d: SetIII::D,
+        t_bits: SetIII::T_BITS,
+        z_bits: SetIII::Z_BITS,
+        position_bits: SetIII::POSITION_BITS,
+        digit: SetIII::DIGIT,
+    };
+}
+
+// One of the sets that the entries work in.
+#[derive(Clone, Copy)]
+pub struct Set {
+    pub numbers: Numbers,
+    ghost known: { Known numbers } by { known_prop numbers (Coded-set numbers-code) },
+}
+
+impl Set {
+    // Set I.
+    pub fn i() -> Set
+        ensures { result.numbers ≡ set_i }
     {
-        Numbers {
-            n: SetIII::N,
-            k: SetIII::K,
-            q: SetIII::Q,
-            h: SetIII::H,
-            e: SetIII::E,
-            s: SetIII::S,
-            b: SetIII::B,
-            d: SetIII::D,
-            t_bits: SetIII::T_BITS,
-            z_bits: SetIII::Z_BITS,
-            position_bits: SetIII::POSITION_BITS,
-            digit: SetIII::DIGIT,
+        Set {
+            numbers: SetI::numbers(),
         }
-    }
-
-    // The fresh sponge of each stream.
-
-    // a_1..a_k from seed_a
-    pub fn fresh_a() -> Sponge
-        ensures { result ≡ fresh 3 1 }
-    {
-        SetIII::numbers().fresh_a()
-    }
-
-    // y from rand and the counter
-    pub fn fresh_y() -> Sponge
-        ensures { result ≡ fresh 3 2 }
-    {
-        SetIII::numbers().fresh_y()
-    }
-
-    // rand
-    pub fn fresh_rand() -> Sponge
-        ensures { result ≡ fresh 3 3 }
-    {
-        SetIII::numbers().fresh_rand()
-    }
-
-    // G of the message
-    pub fn fresh_message() -> Sponge
-        ensures { result ≡ fresh 3 4 }
-    {
-        SetIII::numbers().fresh_message()
-    }
-
-    // g of the packed t_1..t_k
-    pub fn fresh_key() -> Sponge
-        ensures { result ≡ fresh 3 5 }
-    {
-        SetIII::numbers().fresh_key()
-    }
-
-    // c' of the high parts
-    pub fn fresh_challenge() -> Sponge
-        ensures { result ≡ fresh 3 6 }
-    {
-        SetIII::numbers().fresh_challenge()
-    }
-
-    // Enc of c'
-    pub fn fresh_enc() -> Sponge
-        ensures { result ≡ fresh 3 7 }
-    {
-        SetIII::numbers().fresh_enc()
     }
 }

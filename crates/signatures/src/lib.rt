@@ -20,7 +20,7 @@ ghost use Rattle.signatures.specs.Promises.{TookSignature, WritesSignature, Read
 use answers::Refusal;
 use packing::twos;
 use records::pieces;
-use sets::{Numbers, SEED_BYTES, SetI};
+use sets::{Numbers, SEED_BYTES, Set, SetI};
 
 // The bytes of packed z.
 fn z_bytes(set: Numbers) -> usize
