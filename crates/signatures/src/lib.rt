@@ -27,7 +27,7 @@ fn z_bytes(set: Numbers) -> usize
     requires { Good set }
     ensures { result ≡ z_bytes set }
 {
-    (set.z_bits as usize * set.n + 7) / 8
+    (set.z_bits as usize * set.n).div_ceil(8)
 }
 
 // The bytes of a signature record.
@@ -46,39 +46,22 @@ fn z_bound(set: Numbers) -> u32
     set.b - set.s
 }
 
-// |z|.
-fn size(z: i32) -> u32
-    ensures { result ≡ nat_abs z }
-{
-    if z < 0 {
-        (0 - z as i64) as u32
-    } else {
-        z as u32
-    }
-}
-
 // Whether every z is from −(b − s) to b − s. No z is reduced.
 pub fn z_in_range(set: Numbers, z: &[i32]) -> bool
     requires { Good set }
     ensures { result ≡ z_in_range set z.now }
 {
     let bound = z_bound(set);
-    let mut k = 0;
-    while k < z.len() {
-        if bound < size(z[k]) {
-            return false;
-        }
-        k += 1;
-    }
-    true
+    z.iter().all(|z| z.unsigned_abs() <= bound)
 }
 
-// |z| of the z that the b bits x stand for.
+// |z| of the z that the b bits x stand for: x, or what it lacks to 2^b.
+#[tactic(auto, using(crate::proofs::Sizes::size_least))]
 fn size_of_bits(x: u32, b: u32) -> u32
     requires { SizesBits b x }
     ensures { result ≡ nat_abs (signed b x) }
 {
-    if x < 1 << (b - 1) { x } else { (1 << b) - x }
+    x.min((1 << b) - x)
 }
 
 // Whether every z that the b bits x_k stand for is from −bound to bound.
@@ -86,14 +69,7 @@ fn bits_in_range(x: &[u32], b: u32, bound: u32) -> bool
     requires { RangesBits b x.now }
     ensures { result ≡ every (z_passes bound) (map (signed b) x.now) }
 {
-    let mut k = 0;
-    while k < x.len() {
-        if bound < size_of_bits(x[k], b) {
-            return false;
-        }
-        k += 1;
-    }
-    true
+    x.iter().all(|x| size_of_bits(*x, b) <= bound)
 }
 
 // bits = the bits of each z, read from their stretch of the record.
