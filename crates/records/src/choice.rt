@@ -3,7 +3,7 @@ ghost use Rattle.std.specs.Prelude.{◌≡◌};
 ghost use Rattle.records.specs.Choice.{set_of, own_set};
 
 use crate::pieces;
-use sets::{Numbers, SetI, Set, SetIII};
+use sets::{Numbers, Parameters, SetI, SetIII};
 
 // The set by which a record of this kind is judged: set III's where it has set III's mark, else set I's. The mark is unknown where the record is not
 // marked as one of that set.

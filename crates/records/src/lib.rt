@@ -12,7 +12,7 @@ ghost use Rattle.sets.specs.SetI.{set_i};
 ghost use Rattle.records.specs.Promises.{WritesPublic, ReadsPublic, WritesSecret, ReadsSecret};
 
 use answers::Refusal;
-use sets::{Set, SetI};
+use sets::{Parameters, Set, SetI};
 
 // The public record of t, t_1..t_k in a row, and seed_a.
 pub fn write_public(t: &[u32], seed_a: &[u8], public: &mut [u8]) -> Result<(), Refusal>
@@ -25,7 +25,7 @@ pub fn write_public(t: &[u32], seed_a: &[u8], public: &mut [u8]) -> Result<(), R
 pub fn read_public(public: &[u8], t: &mut [u32], seed_a: &mut [u8]) -> Result<(), Refusal>
     ensures { ReadsPublic set_i public.now t.old t.new seed_a.old seed_a.new (number_of result) }
 {
-    public::read(SetI::numbers(), public, t, seed_a)
+    public::read(Set::i(), public, t, seed_a)
 }
 
 // The secret record of s, e_1..e_k in a row, seed_a, seed_y and g.

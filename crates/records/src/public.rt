@@ -4,7 +4,6 @@ ghost use Rattle.answers.specs.Answers.{number_of};
 ghost use Rattle.answers.specs.Tests.{Answered};
 ghost use Rattle.packing.specs.Digits.{packed};
 ghost use Rattle.sets.specs.Good.{Good};
-ghost use Rattle.sets.specs.Known.{Known};
 ghost use Rattle.sets.specs.SetI.{set_i};
 ghost use Rattle.records.specs.Layout.{t_bytes, public_bytes};
 ghost use Rattle.records.specs.Public.{public_record, packed_t, t_of, all_t, t_in_range, public_tests, read_public_tests, write_public_tests};
@@ -13,7 +12,7 @@ ghost use Rattle.records.specs.Promises.{TookPublic, WritesPublic, ReadsPublic};
 
 use crate::pieces;
 use answers::Refusal;
-use sets::{Numbers, SEED_BYTES, SetI};
+use sets::{Numbers, SEED_BYTES, Set, SetI};
 
 // The bytes of one packed t_i.
 pub fn t_bytes(set: Numbers) -> usize
@@ -108,6 +107,7 @@ fn t_passes_of<const N: usize>(set: Numbers, public: &[u8]) -> bool
 }
 
 // The same in every set that there is.
+#[tactic(auto, using(sets::specs::Known::no_other))]
 pub fn t_passes(set: Set, public: &[u8]) -> bool
     requires { LongPublic set.numbers public.now }
     ensures { result ≡ t_in_range set.numbers (all_t set.numbers public.now) }
@@ -119,14 +119,13 @@ pub fn t_passes(set: Set, public: &[u8]) -> bool
 }
 
 // The tests of a lent public record: its length, its mark, the range of t.
-fn test_public(set: Numbers, public: &[u8]) -> Result<(), Refusal>
-    requires { Known set }
-    ensures { Answered (public_tests set public.now) (number_of result) }
+fn test_public(set: Set, public: &[u8]) -> Result<(), Refusal>
+    ensures { Answered (public_tests set.numbers public.now) (number_of result) }
 {
-    if public.len() != public_bytes(set) {
+    if public.len() != public_bytes(set.numbers) {
         return Err(Refusal::Length);
     }
-    if !pieces::is_marked(set, 1, public) {
+    if !pieces::is_marked(set.numbers, 1, public) {
         return Err(Refusal::Mark);
     }
     if !t_passes(set, public) {
@@ -203,11 +202,10 @@ pub(crate) fn write(
 }
 
 // The tests of reading a record into t and seed_a of these lengths.
-fn test_read(set: Numbers, public: &[u8], t: usize, seed_a: usize) -> Result<(), Refusal>
-    requires { Known set }
-    ensures { Answered (read_public_tests set public.now t seed_a) (number_of result) }
+fn test_read(set: Set, public: &[u8], t: usize, seed_a: usize) -> Result<(), Refusal>
+    ensures { Answered (read_public_tests set.numbers public.now t seed_a) (number_of result) }
 {
-    if t != set.k * set.n {
+    if t != set.numbers.k * set.numbers.n {
         return Err(Refusal::Length);
     }
     if seed_a != SEED_BYTES {
@@ -226,16 +224,10 @@ fn take_out(set: Numbers, public: &[u8], t: &mut [u32], seed_a: &mut [u8])
 }
 
 // Tests the record and the lengths of t and seed_a, and reads the record into them.
-pub(crate) fn read(
-    set: Numbers,
-    public: &[u8],
-    t: &mut [u32],
-    seed_a: &mut [u8],
-) -> Result<(), Refusal>
-    requires { Known set }
-    ensures { ReadsPublic set public.now t.old t.new seed_a.old seed_a.new (number_of result) }
+pub(crate) fn read(set: Set, public: &[u8], t: &mut [u32], seed_a: &mut [u8]) -> Result<(), Refusal>
+    ensures { ReadsPublic set.numbers public.now t.old t.new seed_a.old seed_a.new (number_of result) }
 {
     test_read(set, public, t.len(), seed_a.len())?;
-    take_out(set, public, t, seed_a);
+    take_out(set.numbers, public, t, seed_a);
     Ok(())
 }

@@ -226,6 +226,7 @@ impl Parameters for SetIII {
 #[derive(Clone, Copy)]
 pub struct Set {
     pub numbers: Numbers,
+    ghost good: { Good numbers },
     ghost known: { Known numbers } by { known_prop numbers (Coded-set numbers-code) },
 }
 

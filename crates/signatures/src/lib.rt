@@ -10,7 +10,6 @@ ghost use Rattle.answers.specs.Tests.{Answered};
 ghost use Rattle.packing.specs.Digits.{packed};
 ghost use Rattle.rounding.specs.Tests.{z_passes};
 ghost use Rattle.sets.specs.Good.{Good};
-ghost use Rattle.sets.specs.Known.{Known};
 ghost use Rattle.sets.specs.SetI.{set_i};
 ghost use Rattle.records.specs.Layout.{mark, z_bytes, signature_bytes};
 ghost use Rattle.signatures.specs.Signature.{signature_record, z_bits_of, z_of, z_in_range, signature_tests, read_signature_tests, write_signature_tests};
@@ -91,38 +90,37 @@ fn z_passes_in(set: Numbers, signature: &[u8], scratch: &mut [u32]) -> bool
     bits_in_range(scratch, set.z_bits, bound)
 }
 
-// The same in set I: makes the scratch.
-fn z_passes_i(set: Numbers, signature: &[u8]) -> bool
-    requires set_value { set ≡ set_i }
+// The same with scratch of its own.
+fn z_passes_of<const N: usize>(set: Numbers, signature: &[u8]) -> bool
+    requires good { Good set }
+    requires n_is { set.n ≡ N }
     requires long_signature { LongSignature set signature.now }
     ensures { result ≡ z_in_range set (z_of set signature.now) }
 {
-    let mut scratch = [0u32; SetI::N];
+    let mut scratch = [0u32; N];
     z_passes_in(set, signature, &mut scratch)
 }
 
 // The same in every set that there is.
-pub fn z_passes(set: Numbers, signature: &[u8]) -> bool
-    requires known { Known set }
-    requires long_signature { LongSignature set signature.now }
-    ensures { result ≡ z_in_range set (z_of set signature.now) }
+#[tactic(auto, using(sets::specs::Known::no_other))]
+pub fn z_passes(set: Set, signature: &[u8]) -> bool
+    requires { LongSignature set.numbers signature.now }
+    ensures { result ≡ z_in_range set.numbers (z_of set.numbers signature.now) }
 {
-    let digit = set.digit;
-    match digit {
-        1 => z_passes_i(set, signature),
-        _ => false,
+    match set.numbers.digit {
+        1 => z_passes_of::<{ SetI::N }>(set.numbers, signature),
+        _ => unreachable!(),
     }
 }
 
 // The tests of a lent signature record: its length, its mark, the range of z.
-fn test_signature(set: Numbers, signature: &[u8]) -> Result<(), Refusal>
-    requires { Known set }
-    ensures { Answered (signature_tests set signature.now) (number_of result) }
+fn test_signature(set: Set, signature: &[u8]) -> Result<(), Refusal>
+    ensures { Answered (signature_tests set.numbers signature.now) (number_of result) }
 {
-    if signature.len() != signature_bytes(set) {
+    if signature.len() != signature_bytes(set.numbers) {
         return Err(Refusal::Length);
     }
-    if !pieces::is_marked(set, 3, signature) {
+    if !pieces::is_marked(set.numbers, 3, signature) {
         return Err(Refusal::Mark);
     }
     if !z_passes(set, signature) {
@@ -151,26 +149,26 @@ pub fn write_checked(set: Numbers, z: &[i32], c: &[u8], signature: &mut [u8], sc
     write_pieces(set, scratch, c, signature);
 }
 
-// The same in set I: makes the scratch.
-fn put_i(set: Numbers, z: &[i32], c: &[u8], signature: &mut [u8])
-    requires set_value { set ≡ set_i }
+// The same with scratch of its own.
+fn put_of<const N: usize>(set: Numbers, z: &[i32], c: &[u8], signature: &mut [u8])
+    requires good { Good set }
+    requires n_is { set.n ≡ N }
     requires puts_signature { PutsSignature set z.now c.now signature.old }
     ensures { signature.new ≡ signature_record set z.now c.now }
 {
-    let mut scratch = [0u32; SetI::N];
+    let mut scratch = [0u32; N];
     write_checked(set, z, c, signature, &mut scratch);
 }
 
 // The same in every set that there is.
-fn put(set: Numbers, z: &[i32], c: &[u8], signature: &mut [u8])
-    requires known { Known set }
-    requires puts_signature { PutsSignature set z.now c.now signature.old }
-    ensures { signature.new ≡ signature_record set z.now c.now }
+#[tactic(auto, using(sets::specs::Known::no_other))]
+fn put(set: Set, z: &[i32], c: &[u8], signature: &mut [u8])
+    requires { PutsSignature set.numbers z.now c.now signature.old }
+    ensures { signature.new ≡ signature_record set.numbers z.now c.now }
 {
-    let digit = set.digit;
-    match digit {
-        1 => put_i(set, z, c, signature),
-        _ => {}
+    match set.numbers.digit {
+        1 => put_of::<{ SetI::N }>(set.numbers, z, c, signature),
+        _ => unreachable!(),
     }
 }
 
@@ -195,11 +193,10 @@ fn test_write(set: Numbers, z: &[i32], c: &[u8], signature: usize) -> Result<(),
 }
 
 // Tests z, c' and the record's length, and writes the record.
-fn write(set: Numbers, z: &[i32], c: &[u8], signature: &mut [u8]) -> Result<(), Refusal>
-    requires { Known set }
-    ensures { WritesSignature set z.now c.now signature.old signature.new (number_of result) }
+fn write(set: Set, z: &[i32], c: &[u8], signature: &mut [u8]) -> Result<(), Refusal>
+    ensures { WritesSignature set.numbers z.now c.now signature.old signature.new (number_of result) }
 {
-    test_write(set, z, c, signature.len())?;
+    test_write(set.numbers, z, c, signature.len())?;
     put(set, z, c, signature);
     Ok(())
 }
@@ -213,46 +210,44 @@ pub fn unpack_z(set: Numbers, signature: &[u8], z: &mut [i32], scratch: &mut [u3
     twos::from_bits(scratch, set.z_bits, z);
 }
 
-// The same in set I: makes the scratch.
-fn take_z_i(set: Numbers, signature: &[u8], z: &mut [i32])
-    requires set_value { set ≡ set_i }
+// The same with scratch of its own.
+fn take_z_of<const N: usize>(set: Numbers, signature: &[u8], z: &mut [i32])
+    requires good { Good set }
+    requires n_is { set.n ≡ N }
     requires takes_z { TakesZ set signature.now z.old }
     ensures { z.new ≡ z_of set signature.now }
 {
-    let mut scratch = [0u32; SetI::N];
+    let mut scratch = [0u32; N];
     unpack_z(set, signature, z, &mut scratch);
 }
 
 // The same in every set that there is.
-fn take_z(set: Numbers, signature: &[u8], z: &mut [i32])
-    requires known { Known set }
-    requires takes_z { TakesZ set signature.now z.old }
-    ensures { z.new ≡ z_of set signature.now }
+#[tactic(auto, using(sets::specs::Known::no_other))]
+fn take_z(set: Set, signature: &[u8], z: &mut [i32])
+    requires { TakesZ set.numbers signature.now z.old }
+    ensures { z.new ≡ z_of set.numbers signature.now }
 {
-    let digit = set.digit;
-    match digit {
-        1 => take_z_i(set, signature, z),
-        _ => {}
+    match set.numbers.digit {
+        1 => take_z_of::<{ SetI::N }>(set.numbers, signature, z),
+        _ => unreachable!(),
     }
 }
 
 // z and c' of the record.
-fn take_out(set: Numbers, signature: &[u8], z: &mut [i32], c: &mut [u8])
-    requires known { Known set }
-    requires takes_signature { TakesSignature set signature.now z.old c.old }
-    ensures { TookSignature set signature.now z.new c.new }
+fn take_out(set: Set, signature: &[u8], z: &mut [i32], c: &mut [u8])
+    requires { TakesSignature set.numbers signature.now z.old c.old }
+    ensures { TookSignature set.numbers signature.now z.new c.new }
 {
-    let start = 2 + z_bytes(set);
+    let start = 2 + z_bytes(set.numbers);
     take_z(set, signature, z);
     pieces::copy_out(signature, start, c);
 }
 
 // The tests of reading a record into z and c' of these lengths.
-fn test_read(set: Numbers, signature: &[u8], z: usize, c: usize) -> Result<(), Refusal>
-    requires { Known set }
-    ensures { Answered (read_signature_tests set signature.now z c) (number_of result) }
+fn test_read(set: Set, signature: &[u8], z: usize, c: usize) -> Result<(), Refusal>
+    ensures { Answered (read_signature_tests set.numbers signature.now z c) (number_of result) }
 {
-    if z != set.n {
+    if z != set.numbers.n {
         return Err(Refusal::Length);
     }
     if c != SEED_BYTES {
@@ -262,9 +257,8 @@ fn test_read(set: Numbers, signature: &[u8], z: usize, c: usize) -> Result<(), R
 }
 
 // Tests the record and the lengths of z and c', and reads the record into them.
-fn read(set: Numbers, signature: &[u8], z: &mut [i32], c: &mut [u8]) -> Result<(), Refusal>
-    requires { Known set }
-    ensures { ReadsSignature set signature.now z.old z.new c.old c.new (number_of result) }
+fn read(set: Set, signature: &[u8], z: &mut [i32], c: &mut [u8]) -> Result<(), Refusal>
+    ensures { ReadsSignature set.numbers signature.now z.old z.new c.old c.new (number_of result) }
 {
     test_read(set, signature, z.len(), c.len())?;
     take_out(set, signature, z, c);
@@ -275,12 +269,12 @@ fn read(set: Numbers, signature: &[u8], z: &mut [i32], c: &mut [u8]) -> Result<(
 pub fn write_signature(z: &[i32], c: &[u8], signature: &mut [u8]) -> Result<(), Refusal>
     ensures { WritesSignature set_i z.now c.now signature.old signature.new (number_of result) }
 {
-    write(SetI::numbers(), z, c, signature)
+    write(Set::i(), z, c, signature)
 }
 
 // Set I: z and c' of a signature record.
 pub fn read_signature(signature: &[u8], z: &mut [i32], c: &mut [u8]) -> Result<(), Refusal>
     ensures { ReadsSignature set_i signature.now z.old z.new c.old c.new (number_of result) }
 {
-    read(SetI::numbers(), signature, z, c)
+    read(Set::i(), signature, z, c)
 }

@@ -5,8 +5,8 @@ use Rattle.answers.specs.ResultLaws.{answered_err, kept_err}
 use Rattle.signatures.proofs.Steps.{read_takes}
 use Rattle.signatures.proofs.read.Goals as goal
 
-pub take_out-requires-clause-takes_signature : goal.take_out-requires-clause-takes_signature
-take_out-requires-clause-takes_signature c = search (read_takes, c.in_ok-test_read.ensures, rules)
+pub take_out-requires : goal.take_out-requires
+take_out-requires c = search (read_takes, c.in_ok-test_read.ensures, rules)
 
 pub returns : goal.returns
 returns c = search (made, c.in_ok-test_read.ensures, rules)

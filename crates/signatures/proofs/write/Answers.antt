@@ -9,8 +9,8 @@ use Rattle.signatures.proofs.write.Goals as goal
 pub test_write-requires : goal.test_write-requires
 test_write-requires c = search (known_good, rules)
 
-pub put-requires-clause-puts_signature : goal.put-requires-clause-puts_signature
-put-requires-clause-puts_signature c = search (write_puts, c.in_ok-test_write.ensures, rules)
+pub put-requires : goal.put-requires
+put-requires c = search (write_puts, c.in_ok-test_write.ensures, rules)
 
 pub returns : goal.returns
 returns c = search (made, c.in_ok-test_write.ensures, rules)
