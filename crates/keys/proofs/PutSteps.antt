@@ -2,14 +2,12 @@
 -- Assumes nothing.
 use mathlib.Core.Path.{◌≡◌, refl, sym, ap, ap₂, ◌∙◌}
 use mathlib.Core.List.{List, ◌++◌, append-nil, append_assoc}
-use Prim.Native.Nat.{ℕ, ◌+◌, ◌*◌, ◌-◌, ◌≤◌, ◌<◌, zero-le}
+use Prim.Native.Nat.{ℕ, ◌+◌, ◌*◌, ◌≤◌}
 use native.Mathlib.Nat.{le_antisymm, mul_comm}
 use native.Mathlib.Numerals.{add-one}
 use native.Mathlib.Omega.{arith}
 use lib.ListN.{length, take, drop, length-append}
 use lib.Seq.{length-take-le}
-use Rattle.whole.specs.Parts.{part_length}
-use Rattle.whole.specs.Rows.{row_within, row_lent}
 use Rattle.whole.specs.Table.{joined}
 use Rattle.whole.specs.TableLaws.{joined_length, joined_ext, joined_part}
 use Rattle.whole.specs.Written.{Written, written_kept, written_more, written_length}
@@ -25,9 +23,12 @@ use Rattle.sampling.specs.DrawALaws.{AtA, at_first, at_asks, at_written, at_next
 use Rattle.sampling.specs.Promises.{StartedA, AfterA}
 use Rattle.sampling.specs.Residues.{after_residues}
 use Rattle.records.specs.Asks.{PacksT}
+use Rattle.records.specs.ChunksLaws.{Rows, Ahead, Comes, ahead_begins}
+use Rattle.std.specs.Iterator.Adapters.{enumerate_source, enumerate_count}
+use Rattle.std.specs.Slice.Iter.{chunks_exact_rest, chunks_exact_size}
 use Rattle.records.specs.Layout.{t_bytes}
 use Rattle.records.specs.Public.{packed_t}
-use Rattle.records.specs.PublicLaws.{packed_t_length_lem}
+use Rattle.records.specs.PublicLaws.{packed_t_length_lem, polynomial_length}
 use Rattle.records.specs.SizeLaws.{stretch_fits}
 use Rattle.keys.specs.Asks.{Places, ForT, ForNext, ForOne, ForPut}
 use Rattle.keys.specs.Key.{sum_of, key_t, all_key_t}
@@ -100,70 +101,75 @@ module _ (set : Numbers) (s e seed_a : List ℕ) where
       joined_ext set.k _ _
       (λ i l. ap (packed set.t_bits) (sym (joined_part set.k set.n i (key_t set s e seed_a) (λ j r. key_t_length set s e seed_a j) l)))
 
--- t_1..t_i are written
-pub record Turn (set : Numbers) (s e seed_a old public : List ℕ) (d : DrawA) (i : ℕ) : Type 0 where
-  pub within : i ≤ set.k
-  pub at : AtA set seed_a i d
+-- t_1..t_i are written, and e_(i + 1) comes next
+pub record Turn (set : Numbers) (s e seed_a old public : List ℕ) (d : DrawA) (it : Rows) : Type 0 where
+  pub within : enumerate_count it ≤ set.k
+  pub ahead : Ahead set.n e it
+  pub at : AtA set seed_a (enumerate_count it) d
   pub long : length public ≡ length old
-  pub done : Written (take 2 old ++ upto set s e seed_a i) old public
+  pub done : Written (take 2 old ++ upto set s e seed_a (enumerate_count it)) old public
 
 module _ {set : Numbers} {s e seed_a old : List ℕ} (asked : ForPut set s e old) where
-  pub turn_none : {d : DrawA} → StartedA set seed_a d → Turn set s e seed_a old old d 0
+  pub turn_none : {d : DrawA} {it : Rows} → chunks_exact_size (enumerate_source it) ≡ set.n → chunks_exact_rest (enumerate_source it) ≡ e
+      → enumerate_count it ≡ 0 → StartedA set seed_a d → Turn set s e seed_a old old d it
   unfolding joined
-  turn_none started =
+  turn_none {it = it} size rest none started =
       record {
-        within = zero-le;
-        at = at_first started;
+        within = omega arith;
+        ahead = ahead_begins set.n e it size rest none;
+        at = rw none (at_first started);
         long = refl;
-        done = rw (append-nil (take 2 old)) (written_kept 2 old (omega (arith, asked.public_long)));
+        done = rw (none, append-nil (take 2 old)) (written_kept 2 old (omega (arith, asked.public_long)));
       }
 
-  module _ {public : List ℕ} {d : DrawA} {i : ℕ} (turn : Turn set s e seed_a old public d i) where
-    so_far : length (take 2 old ++ upto set s e seed_a i) ≡ 2 + t_bytes set * i
-    so_far = upto_long set s e seed_a old i (omega (arith, asked.public_long))
+  module _ {public : List ℕ} {d : DrawA} {it : Rows} (turn : Turn set s e seed_a old public d it) where
+    so_far : length (take 2 old ++ upto set s e seed_a (enumerate_count it)) ≡ 2 + t_bytes set * enumerate_count it
+    so_far = upto_long set s e seed_a old (enumerate_count it) (omega (arith, asked.public_long))
 
-    pub one_asks : Known set → i < set.k → ForOne set d s (take (set.n * i + set.n - set.n * i) (drop (set.n * i) e)) i public
-    one_asks known l =
-        record {
-          for_next =
-              record {
-                good = known_good known;
-                valid = next.valid;
-                needed = next.needed;
-                s_long = asked.s_long;
-                e_long = rw (row_lent set.n i e) (part_length (set.n * i) set.n e (row_within set.n set.k i e asked.e_long l));
-              };
-          inside = l;
-          public_long = turn.long ∙ asked.public_long;
-        }
-      where
-        next : NextA set d set.n
-        next = at_asks turn.at (known_good known) l refl
+    module _ {next : Rows} {i : ℕ} {x : List ℕ} (c : Comes set e it next i x) where
+      pub one_asks : Known set → ForOne set d s x i public
+      one_asks known =
+          record {
+            for_next =
+                record {
+                  good = known_good known;
+                  valid = asks.valid;
+                  needed = asks.needed;
+                  s_long = asked.s_long;
+                  e_long = rw c.is (polynomial_length set.n set.k i e asked.e_long c.inside);
+                };
+            inside = c.inside;
+            public_long = turn.long ∙ asked.public_long;
+          }
+        where
+          asks : NextA set d set.n
+          asks = at_asks turn.at (known_good known) (rw c.at at c.inside) refl
 
-    pub turn_more : {public₁ : List ℕ} {d₁ : DrawA} {next : ℕ} → i < set.k
-        → PutsOne set d s (take (set.n * i + set.n - set.n * i) (drop (set.n * i) e)) i public public₁ d₁
-        → next ≡ i + 1 → Turn set s e seed_a old public₁ d₁ next
-    unfolding key_t joined
-    turn_more {public₁} l puts next_is =
-        rw next_is
-        (record {
-          within = omega arith;
-          at = at_next turn.at l puts.drawn;
-          long = written_length written;
-          done = rw (add-one, ← append_assoc (take 2 old) (upto set s e seed_a i) (one set s e seed_a i)) written;
-        })
-      where
-        written : Written ((take 2 old ++ upto set s e seed_a i) ++ one set s e seed_a i) old public₁
-        written =
-            written_more turn.done (2 + t_bytes set * i) (t_bytes set) (one set s e seed_a i) (sym so_far) (one_long set s e seed_a i)
-            (stretch_fits set old i asked.public_long l) (rw (at_written turn.at puts.drawn, row_lent set.n i e) at puts.put)
+      pub turn_more : {public₁ : List ℕ} {d₁ : DrawA} → PutsOne set d s x i public public₁ d₁ → Turn set s e seed_a old public₁ d₁ next
+      unfolding key_t joined
+      turn_more {public₁} puts =
+          record {
+            within = omega (arith, c.inside, c.counted);
+            ahead = c.ahead;
+            at = rw c.counted (at_next at_i c.inside puts.drawn);
+            long = written_length written;
+            done = rw (c.counted, add-one, ← append_assoc (take 2 old) (upto set s e seed_a i) (one set s e seed_a i)) written;
+          }
+        where
+          at_i : AtA set seed_a i d
+          at_i = rw c.at turn.at
 
-    pub turn_all : set.k ≤ i → PutsT set s e seed_a old public
+          written : Written ((take 2 old ++ upto set s e seed_a i) ++ one set s e seed_a i) old public₁
+          written =
+              written_more (rw c.at turn.done) (2 + t_bytes set * i) (t_bytes set) (one set s e seed_a i) (rw c.at (sym so_far)) (one_long set s e seed_a i)
+              (stretch_fits set old i asked.public_long c.inside) (rw (at_written at_i puts.drawn, c.is) at puts.put)
+
+    pub turn_all : set.k ≤ enumerate_count it → PutsT set s e seed_a old public
     turn_all m =
         record {
           is =
-              turn.done.is ∙ ap (λ b. (take 2 old ++ upto set s e seed_a i) ++ drop b old) so_far
-              ∙ append_assoc (take 2 old) (upto set s e seed_a i) (drop (2 + t_bytes set * i) old)
+              turn.done.is ∙ ap (λ b. (take 2 old ++ upto set s e seed_a (enumerate_count it)) ++ drop b old) so_far
+              ∙ append_assoc (take 2 old) (upto set s e seed_a (enumerate_count it)) (drop (2 + t_bytes set * enumerate_count it) old)
               ∙ ap (λ j. take 2 old ++ (upto set s e seed_a j ++ drop (2 + t_bytes set * j) old)) (le_antisymm turn.within m)
               ∙ ap₂ (λ l b. take 2 old ++ (l ++ drop (2 + b) old)) (upto_all set s e seed_a) (mul_comm (t_bytes set) set.k);
         }

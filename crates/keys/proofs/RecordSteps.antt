@@ -7,9 +7,8 @@ use native.Mathlib.Omega.{arith}
 use lib.ListN.{length, take, drop}
 use Rattle.sets.specs.declared.Numbers.{Numbers}
 use Rattle.sets.specs.Known.{Known, known_good}
-use Rattle.sets.specs.SetI.{set_i}
 use Rattle.sampling.specs.Streams.{key_digest}
-use Rattle.records.specs.Asks.{PutsPublic, Marks}
+use Rattle.records.specs.Asks.{PutsPublic}
 use Rattle.records.specs.Layout.{mark, stretch, t_bytes}
 use Rattle.records.specs.PublicLaws.{public_packed}
 use Rattle.records.specs.Secret.{secret_record}
@@ -17,18 +16,11 @@ use Rattle.records.proofs.PublicSteps.{put_is}
 use Rattle.keys.specs.Asks.{ForPublic}
 use Rattle.keys.specs.Key.{all_key_t, public_of, secret_of}
 use Rattle.keys.specs.KeyLaws.{all_key_t_length, all_key_t_below}
-use Rattle.keys.specs.Promises.{MakesKey, PutsT}
+use Rattle.keys.specs.Promises.{PutsT}
 
 -- ---- the public record
 
 module _ {set : Numbers} {s e seed_a old : List ℕ} (known : Known set) (asked : ForPublic set s e seed_a old) where
-  pub mark_asks : Marks set 1 old
-  mark_asks =
-      record {
-        fits = omega (arith, (known_good known).digit_fits);
-        room = omega (arith, asked.for_put.public_long);
-      }
-
   pub public_is : {marks packs new : List ℕ} {at : ℕ} → marks ≡ mark set 1 ++ drop 2 old → PutsT set s e seed_a marks packs
       → at ≡ 2 + set.k * t_bytes set → new ≡ take at packs ++ (seed_a ++ drop (at + length seed_a) packs) → new ≡ public_of set s e seed_a
   unfolding public_of
@@ -65,9 +57,3 @@ secret_is set s e seed_a seed_y public_is written =
     written
     ∙ ap (λ (l : List ℕ). secret_record set s e seed_a seed_y (key_digest set l))
     (ap (stretch 2 (set.k * t_bytes set)) public_is ∙ public_packed set (all_key_t set s e seed_a) seed_a (all_key_t_length set s e seed_a))
-
--- ---- set I
-
-pub makes_i : {set : Numbers} {s e seed_a seed_y public public₁ secret secret₁ : List ℕ} {number : ℕ} → set ≡ set_i
-    → MakesKey set s e seed_a seed_y public public₁ secret secret₁ number → MakesKey set_i s e seed_a seed_y public public₁ secret secret₁ number
-makes_i i made = rw i at made

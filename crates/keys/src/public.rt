@@ -91,15 +91,9 @@ fn put_t(set: Numbers, s: &[u8], e: &[u8], seed_a: &[u8], public: &mut [u8])
     requires for_put { ForPut set s.now e.now public.old }
     ensures { PutsT set s.now e.now seed_a.now public.old public.new }
 {
-    let n = set.n;
-    let k = set.k;
     let mut draw = sampling::drawn::start_a(set, seed_a);
-    let mut i = 0;
-    while i < k {
-        let start = n * i;
-        let next = put_next(set, draw, s, &e[start..start + n], i, public);
-        draw = next;
-        i += 1;
+    for (i, e_i) in e.chunks_exact(set.n).enumerate() {
+        draw = put_next(set, draw, s, e_i, i, public);
     }
 }
 

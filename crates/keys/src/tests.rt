@@ -15,9 +15,8 @@ fn sum_passes(set: Numbers, bytes: &[u8], bound: u32) -> bool
     requires { Good set }
     ensures { result ≡ sum_passes set.h bound bytes.now }
 {
-    let h = set.h;
     let mut slots = [0u32; 256];
-    ring::largest::sum_passes(bytes, &mut slots[..h], bound)
+    ring::largest::sum_passes(bytes, &mut slots[..set.h], bound)
 }
 
 // Whether checkE passes for every e_i.
@@ -25,17 +24,7 @@ fn each_e_passes(set: Numbers, e: &[u8]) -> bool
     requires { LongE set e.now }
     ensures { result ≡ each_e_passes set e.now }
 {
-    let n = set.n;
-    let k = set.k;
-    let mut i = 0;
-    while i < k {
-        let start = n * i;
-        if !sum_passes(set, &e[start..start + n], set.e) {
-            return false;
-        }
-        i += 1;
-    }
-    true
+    e.chunks_exact(set.n).all(|e_i| sum_passes(set, e_i, set.e))
 }
 
 // The tests 5, 6 and 7, of s and e_1..e_k.

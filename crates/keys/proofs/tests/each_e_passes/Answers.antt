@@ -1,16 +1,15 @@
--- The goals of `keys::tests::each_e_passes` that want an answer by hand. Assumes nothing.
-use borrow.Author.Rules.{rules}
-use Rattle.keys.proofs.TestSteps.{passed_none, passed_more, passed_fails, passed_all}
+-- The goal of `keys::tests::each_e_passes` that wants an answer by hand. Assumes nothing.
+use Rattle.std.proofs.Common.{rules, ◌∙◌, tests}
+use Rattle.std.proofs.lemmas.Iterator.Search.{all_from_yields_List}
+use Rattle.ring.specs.Largest.{sum_passes}
+use Rattle.records.specs.ChunksLaws.{yields_polynomials}
+use Rattle.records.proofs.Scans.{every_table}
+use Rattle.keys.specs.Key.{each_e_passes}
 use Rattle.keys.proofs.tests.each_e_passes.Goals as goal
 
-pub loop-i-init : goal.loop-i-init
-loop-i-init c = passed_none _ _
-
-pub returns-then-not-sum_passes : goal.returns-then-not-sum_passes
-returns-then-not-sum_passes c = search (passed_fails, rules)
-
-pub loop-i-preserved : goal.loop-i-preserved
-loop-i-preserved c = search (passed_more, rules)
-
 pub returns : goal.returns
-returns c = search (passed_all, rules)
+unfolding each_e_passes
+returns c =
+    all_from_yields_List (sum_passes c.args.set.h c.args.set.e) _ _ _ c.all.ensures.ran
+    (yields_polynomials c.requires.good c.args.e.now c.requires.e_long (cc) (cc)) (λ x b q k. search (rules, tests))
+    ∙ every_table _ _ _
