@@ -27,13 +27,10 @@ fn of_round(r: &mut [u64; 8], i: usize) -> u64
     ensures register { r.new ≡ register (7 * (i + 1)) }
 {
     let mut constant: u64 = 0;
-    let mut j: usize = 0;
-    while j < 7 {
+    for j in 0..7u32 {
         let place: usize = (1 << j) - 1;
-        constant = constant | r[0] << place;
-        let next = turn(*r);
-        *r = next;
-        j += 1;
+        constant |= r[0] << place;
+        *r = turn(*r);
     }
     constant
 }
@@ -45,12 +42,10 @@ pub(crate) fn all() -> [u64; 24]
 {
     let mut constants = [0; 24];
     let mut r = [1, 0, 0, 0, 0, 0, 0, 0];
-    let mut i: usize = 0;
-    while i < 24 {
+    for i in (0..24).step_by(3) {
         constants[i] = of_round(&mut r, i);
         constants[i + 1] = of_round(&mut r, i + 1);
         constants[i + 2] = of_round(&mut r, i + 2);
-        i += 3;
     }
     constants
 }

@@ -10,67 +10,42 @@ ghost use Rattle.keccak.specs.Steps.{theta, rho, pi, chi, add_constant, keccak_f
 fn theta(a: [u64; 25]) -> [u64; 25]
     ensures { result ≡ theta a }
 {
-    let a0 = a[0];
-    let a1 = a[1];
-    let a2 = a[2];
-    let a3 = a[3];
-    let a4 = a[4];
-    let a5 = a[5];
-    let a6 = a[6];
-    let a7 = a[7];
-    let a8 = a[8];
-    let a9 = a[9];
-    let a10 = a[10];
-    let a11 = a[11];
-    let a12 = a[12];
-    let a13 = a[13];
-    let a14 = a[14];
-    let a15 = a[15];
-    let a16 = a[16];
-    let a17 = a[17];
-    let a18 = a[18];
-    let a19 = a[19];
-    let a20 = a[20];
-    let a21 = a[21];
-    let a22 = a[22];
-    let a23 = a[23];
-    let a24 = a[24];
-    let c0 = a0 ^ a5 ^ a10 ^ a15 ^ a20;
-    let c1 = a1 ^ a6 ^ a11 ^ a16 ^ a21;
-    let c2 = a2 ^ a7 ^ a12 ^ a17 ^ a22;
-    let c3 = a3 ^ a8 ^ a13 ^ a18 ^ a23;
-    let c4 = a4 ^ a9 ^ a14 ^ a19 ^ a24;
-    let d0 = c4 ^ (c1 << 1 | c1 >> 63);
-    let d1 = c0 ^ (c2 << 1 | c2 >> 63);
-    let d2 = c1 ^ (c3 << 1 | c3 >> 63);
-    let d3 = c2 ^ (c4 << 1 | c4 >> 63);
-    let d4 = c3 ^ (c0 << 1 | c0 >> 63);
+    let c0 = a[0] ^ a[5] ^ a[10] ^ a[15] ^ a[20];
+    let c1 = a[1] ^ a[6] ^ a[11] ^ a[16] ^ a[21];
+    let c2 = a[2] ^ a[7] ^ a[12] ^ a[17] ^ a[22];
+    let c3 = a[3] ^ a[8] ^ a[13] ^ a[18] ^ a[23];
+    let c4 = a[4] ^ a[9] ^ a[14] ^ a[19] ^ a[24];
+    let d0 = c4 ^ c1.rotate_left(1);
+    let d1 = c0 ^ c2.rotate_left(1);
+    let d2 = c1 ^ c3.rotate_left(1);
+    let d3 = c2 ^ c4.rotate_left(1);
+    let d4 = c3 ^ c0.rotate_left(1);
     [
-        a0 ^ d0,
-        a1 ^ d1,
-        a2 ^ d2,
-        a3 ^ d3,
-        a4 ^ d4,
-        a5 ^ d0,
-        a6 ^ d1,
-        a7 ^ d2,
-        a8 ^ d3,
-        a9 ^ d4,
-        a10 ^ d0,
-        a11 ^ d1,
-        a12 ^ d2,
-        a13 ^ d3,
-        a14 ^ d4,
-        a15 ^ d0,
-        a16 ^ d1,
-        a17 ^ d2,
-        a18 ^ d3,
-        a19 ^ d4,
-        a20 ^ d0,
-        a21 ^ d1,
-        a22 ^ d2,
-        a23 ^ d3,
-        a24 ^ d4,
+        a[0] ^ d0,
+        a[1] ^ d1,
+        a[2] ^ d2,
+        a[3] ^ d3,
+        a[4] ^ d4,
+        a[5] ^ d0,
+        a[6] ^ d1,
+        a[7] ^ d2,
+        a[8] ^ d3,
+        a[9] ^ d4,
+        a[10] ^ d0,
+        a[11] ^ d1,
+        a[12] ^ d2,
+        a[13] ^ d3,
+        a[14] ^ d4,
+        a[15] ^ d0,
+        a[16] ^ d1,
+        a[17] ^ d2,
+        a[18] ^ d3,
+        a[19] ^ d4,
+        a[20] ^ d0,
+        a[21] ^ d1,
+        a[22] ^ d2,
+        a[23] ^ d3,
+        a[24] ^ d4,
     ]
 }
 
@@ -78,57 +53,32 @@ fn theta(a: [u64; 25]) -> [u64; 25]
 fn rho_pi(a: [u64; 25]) -> [u64; 25]
     ensures { result ≡ pi (rho a) }
 {
-    let a0 = a[0];
-    let a1 = a[1];
-    let a2 = a[2];
-    let a3 = a[3];
-    let a4 = a[4];
-    let a5 = a[5];
-    let a6 = a[6];
-    let a7 = a[7];
-    let a8 = a[8];
-    let a9 = a[9];
-    let a10 = a[10];
-    let a11 = a[11];
-    let a12 = a[12];
-    let a13 = a[13];
-    let a14 = a[14];
-    let a15 = a[15];
-    let a16 = a[16];
-    let a17 = a[17];
-    let a18 = a[18];
-    let a19 = a[19];
-    let a20 = a[20];
-    let a21 = a[21];
-    let a22 = a[22];
-    let a23 = a[23];
-    let a24 = a[24];
     [
-        a0,
-        a6 << 44 | a6 >> 20,
-        a12 << 43 | a12 >> 21,
-        a18 << 21 | a18 >> 43,
-        a24 << 14 | a24 >> 50,
-        a3 << 28 | a3 >> 36,
-        a9 << 20 | a9 >> 44,
-        a10 << 3 | a10 >> 61,
-        a16 << 45 | a16 >> 19,
-        a22 << 61 | a22 >> 3,
-        a1 << 1 | a1 >> 63,
-        a7 << 6 | a7 >> 58,
-        a13 << 25 | a13 >> 39,
-        a19 << 8 | a19 >> 56,
-        a20 << 18 | a20 >> 46,
-        a4 << 27 | a4 >> 37,
-        a5 << 36 | a5 >> 28,
-        a11 << 10 | a11 >> 54,
-        a17 << 15 | a17 >> 49,
-        a23 << 56 | a23 >> 8,
-        a2 << 62 | a2 >> 2,
-        a8 << 55 | a8 >> 9,
-        a14 << 39 | a14 >> 25,
-        a15 << 41 | a15 >> 23,
-        a21 << 2 | a21 >> 62,
+        a[0],
+        a[6].rotate_left(44),
+        a[12].rotate_left(43),
+        a[18].rotate_left(21),
+        a[24].rotate_left(14),
+        a[3].rotate_left(28),
+        a[9].rotate_left(20),
+        a[10].rotate_left(3),
+        a[16].rotate_left(45),
+        a[22].rotate_left(61),
+        a[1].rotate_left(1),
+        a[7].rotate_left(6),
+        a[13].rotate_left(25),
+        a[19].rotate_left(8),
+        a[20].rotate_left(18),
+        a[4].rotate_left(27),
+        a[5].rotate_left(36),
+        a[11].rotate_left(10),
+        a[17].rotate_left(15),
+        a[23].rotate_left(56),
+        a[2].rotate_left(62),
+        a[8].rotate_left(55),
+        a[14].rotate_left(39),
+        a[15].rotate_left(41),
+        a[21].rotate_left(2),
     ]
 }
 
@@ -136,67 +86,41 @@ fn rho_pi(a: [u64; 25]) -> [u64; 25]
 fn chi(a: [u64; 25]) -> [u64; 25]
     ensures { result ≡ chi a }
 {
-    let a0 = a[0];
-    let a1 = a[1];
-    let a2 = a[2];
-    let a3 = a[3];
-    let a4 = a[4];
-    let a5 = a[5];
-    let a6 = a[6];
-    let a7 = a[7];
-    let a8 = a[8];
-    let a9 = a[9];
-    let a10 = a[10];
-    let a11 = a[11];
-    let a12 = a[12];
-    let a13 = a[13];
-    let a14 = a[14];
-    let a15 = a[15];
-    let a16 = a[16];
-    let a17 = a[17];
-    let a18 = a[18];
-    let a19 = a[19];
-    let a20 = a[20];
-    let a21 = a[21];
-    let a22 = a[22];
-    let a23 = a[23];
-    let a24 = a[24];
     [
-        a0 ^ (!a1 & a2),
-        a1 ^ (!a2 & a3),
-        a2 ^ (!a3 & a4),
-        a3 ^ (!a4 & a0),
-        a4 ^ (!a0 & a1),
-        a5 ^ (!a6 & a7),
-        a6 ^ (!a7 & a8),
-        a7 ^ (!a8 & a9),
-        a8 ^ (!a9 & a5),
-        a9 ^ (!a5 & a6),
-        a10 ^ (!a11 & a12),
-        a11 ^ (!a12 & a13),
-        a12 ^ (!a13 & a14),
-        a13 ^ (!a14 & a10),
-        a14 ^ (!a10 & a11),
-        a15 ^ (!a16 & a17),
-        a16 ^ (!a17 & a18),
-        a17 ^ (!a18 & a19),
-        a18 ^ (!a19 & a15),
-        a19 ^ (!a15 & a16),
-        a20 ^ (!a21 & a22),
-        a21 ^ (!a22 & a23),
-        a22 ^ (!a23 & a24),
-        a23 ^ (!a24 & a20),
-        a24 ^ (!a20 & a21),
+        a[0] ^ (!a[1] & a[2]),
+        a[1] ^ (!a[2] & a[3]),
+        a[2] ^ (!a[3] & a[4]),
+        a[3] ^ (!a[4] & a[0]),
+        a[4] ^ (!a[0] & a[1]),
+        a[5] ^ (!a[6] & a[7]),
+        a[6] ^ (!a[7] & a[8]),
+        a[7] ^ (!a[8] & a[9]),
+        a[8] ^ (!a[9] & a[5]),
+        a[9] ^ (!a[5] & a[6]),
+        a[10] ^ (!a[11] & a[12]),
+        a[11] ^ (!a[12] & a[13]),
+        a[12] ^ (!a[13] & a[14]),
+        a[13] ^ (!a[14] & a[10]),
+        a[14] ^ (!a[10] & a[11]),
+        a[15] ^ (!a[16] & a[17]),
+        a[16] ^ (!a[17] & a[18]),
+        a[17] ^ (!a[18] & a[19]),
+        a[18] ^ (!a[19] & a[15]),
+        a[19] ^ (!a[15] & a[16]),
+        a[20] ^ (!a[21] & a[22]),
+        a[21] ^ (!a[22] & a[23]),
+        a[22] ^ (!a[23] & a[24]),
+        a[23] ^ (!a[24] & a[20]),
+        a[24] ^ (!a[20] & a[21]),
     ]
 }
 
 // Algorithm 6, with the round's constant.
-fn iota(a: [u64; 25], constant: u64) -> [u64; 25]
+fn iota(mut a: [u64; 25], constant: u64) -> [u64; 25]
     ensures { result ≡ add_constant a constant }
 {
-    let mut b = a;
-    b[0] = b[0] ^ constant;
-    b
+    a[0] ^= constant;
+    a
 }
 
 // A round, section 3.3, with its constant.
@@ -210,13 +134,5 @@ fn round(a: [u64; 25], constant: u64) -> [u64; 25]
 pub fn permute(lanes: [u64; 25]) -> [u64; 25]
     ensures { result ≡ keccak_f lanes }
 {
-    let constants = constants::all();
-    let mut a = lanes;
-    let mut i: usize = 0;
-    while i < 24 {
-        let b = round(a, constants[i]);
-        a = b;
-        i += 1;
-    }
-    a
+    constants::all().iter().copied().fold(lanes, round)
 }

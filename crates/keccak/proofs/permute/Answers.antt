@@ -1,23 +1,9 @@
 -- The goals of `keccak::permute` that want an answer by hand. Assumes nothing.
-use mathlib.Core.Path.{◌≡◌, refl, ap, ◌∙◌}
-use Prim.Native.Nat.{ℕ}
-use native.Mathlib.Omega.{arith}
-use Rattle.keccak.specs.Steps.{rounds, keccak_f}
-use Rattle.keccak.proofs.Rounds.{rounds_more}
+use Rattle.std.proofs.Common.{◌∙◌, refl, rules}
+use Rattle.std.proofs.lemmas.Iterator.{YieldsList-from_slice}
+use Rattle.std.proofs.lemmas.Iterator.Consumers.{YieldsList-from_copied, fold_from_yields_List}
+use Rattle.keccak.proofs.Rounds.{round_by, permuted}
 use Rattle.keccak.proofs.permute.Goals as goal
 
-pub loop-i-init : goal.loop-i-init
-unfolding rounds
-loop-i-init c = (omega arith, refl)
-
-pub loop-i-preserved : goal.loop-i-preserved
-loop-i-preserved c =
-    let constant = c.all-constants.ensures c.loop-i.i (omega arith) in
-    (omega arith, rounds_more _ c.loop-i.i _ _ _ c.loop-i.invariant.1 constant c.round-b.ensures)
-
 pub returns : goal.returns
-unfolding keccak_f
-returns c =
-    let head = c.loop-i in
-    let done : head.i ≡ 24 = omega arith in
-    head.invariant.1 ∙ ap (λ (n : ℕ). rounds n c.args.lanes) done
+returns c = fold_from_yields_List _ round_by _ _ c.fold.ensures.ran (YieldsList-from_copied (YieldsList-from_slice c.all.result cc)) (λ a x b q k. (refl, k.met)) ∙ permuted _ _ (search rules) c.all.ensures
