@@ -11,49 +11,57 @@ mod scheme;
 mod sponge;
 mod streams;
 
-ghost use Rattle.std.specs.Prelude.{◌≡◌, length};
-
 use shake::Sponge;
+use std::io;
 
-// The input, and the memory: every byte is A5 before something goes in.
-fn buffer() -> [u8; 524288]
-    ensures { 524288 ≡ length result }
-{
-    [0xA5; 524288]
+const MEMORY_BYTES: usize = 524288;
+
+// The input, and the memory: every byte is A5 before something goes in. A function of its own, so that the proof of `main` does not unfold so
+// many bytes.
+fn blank() -> [u8; MEMORY_BYTES] {
+    [0xA5; MEMORY_BYTES]
 }
 
-// Runs the case of a letter with what its piece holds. Answers the sponge after it.
-fn run_case(letter: u8, given: &[u8], state: Sponge, memory: &mut [u8]) -> Sponge {
-    if letter < b'A' {
-        return sponge::run(letter, given, state);
+// Runs the case of a letter with what its piece holds. Gives the sponge after it.
+fn run_case(
+    rt: &impl Print,
+    letter: u8,
+    given: &[u8],
+    state: Sponge,
+    memory: &mut [u8],
+) -> io::Result<Sponge> {
+    match letter {
+        b'a'.. => streams::run(rt, letter, given)?,
+        b'A'.. => scheme::run(rt, letter, given, memory)?,
+        _ => return sponge::run(rt, letter, given, state),
     }
-    if letter < b'a' {
-        scheme::run(letter, given, memory);
-    } else {
-        streams::run(letter, given);
-    }
-    state
+    Ok(state)
 }
 
-// All cases of the input, and a line for each.
-fn run(s: &[u8], memory: &mut [u8]) {
+// All cases of the input, and a line for each. What is no whole case at the end is left out.
+fn run(rt: &impl Print, input: &[u8], memory: &mut [u8]) -> io::Result<()> {
     let mut state = Sponge::blank();
-    let mut at = 0;
-    while at < s.len() {
-        let long = bytes::pair(s, at + 1);
-        if s.len() - at < 3 + long {
-            return;
-        }
-        let next = run_case(s[at], bytes::part(s, at + 3, long), state, memory);
-        state = next;
-        io::write_all(1, b"\n");
-        at += 3 + long;
+    let mut rest = input;
+    while let Some(([letter, low, high], after)) = rest.split_first_chunk::<3>() {
+        let long = usize::from(u16::from_le_bytes([*low, *high]));
+        let Some((given, next)) = after.split_at_checked(long) else {
+            break;
+        };
+        state = run_case(rt, *letter, given, state, memory)?;
+        println!(rt)?;
+        rest = next;
     }
+    Ok(())
 }
 
-fn main() {
-    let mut input = buffer();
-    let n = io::read_full(0, &mut input);
-    let mut memory = buffer();
-    run(&input[..n], &mut memory);
+fn main(rt: HostRuntime) {
+    let mut input = blank();
+    let mut room = &mut input[..];
+    // A read that fails counts as the end, and so does a full buffer.
+    let _ = io::copy(&mut rt.stdin(), &mut room);
+    // The contract of `copy` does not say that the room shrinks, so this saturates.
+    let held = MEMORY_BYTES.saturating_sub(room.len());
+    let mut memory = blank();
+    // Nothing is told of a write that fails.
+    let _ = run(&rt, &input[..held], &mut memory);
 }

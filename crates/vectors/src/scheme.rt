@@ -30,7 +30,12 @@ ghost use Rattle.std.specs.Prelude.{◌<◌};
 use crate::bytes;
 use answers::Refusal;
 use envelope::Opened;
-use shake::Sponge;
+use std::io;
+
+// The rooms of a record and of an envelope.
+const RECORD_ROOM: usize = 16384;
+
+const ENVELOPE_ROOM: usize = 40960;
 
 // The stretch whose place stands from number i on.
 fn stretch(memory: &[u8], i: usize) -> &[u8]
@@ -56,245 +61,210 @@ fn store(room: &[u8], memory: &mut [u8], i: usize) {
 
 // ---- the algorithms
 
-fn make_key(memory: &mut [u8], secret: &mut [u8]) {
-    let mut room = bytes::room();
-    let public: &mut [u8] = &mut room;
-    load(memory, 2, public);
-    let n = bytes::fit(memory, 3, public);
-    bytes::print_answer(keys::make_key(
+fn make_key(rt: &impl Print, memory: &mut [u8], secret: &mut [u8]) -> io::Result<()> {
+    let mut public = [0xA5; RECORD_ROOM];
+    load(memory, 2, &mut public);
+    let answer = keys::make_key(
         stretch(memory, 4),
         stretch(memory, 6),
         stretch(memory, 8),
         stretch(memory, 10),
-        &mut public[..n],
+        bytes::lend(memory, 3, &mut public),
         secret,
-    ));
-    bytes::hash_all(public);
-    store(public, memory, 2);
+    );
+    bytes::print_answer(rt, &answer)?;
+    bytes::print_hash(rt, &public)?;
+    store(&public, memory, 2);
+    Ok(())
 }
 
-fn print_signed(signed: Result<u16, Refusal>) {
-    bytes::print_byte(answers::number(&signed));
-    bytes::print_pair(signed.unwrap_or(0));
+// The number and the counter, 0 on refusal.
+fn print_signed(rt: &impl Print, signed: Result<u16, Refusal>) -> io::Result<()> {
+    bytes::print_answer(rt, &signed)?;
+    bytes::print(rt, &signed.unwrap_or(0).to_le_bytes())
 }
 
-fn sign(memory: &[u8], signature: &mut [u8]) {
-    print_signed(signing::sign(
+fn sign(rt: &impl Print, memory: &[u8], signature: &mut [u8]) -> io::Result<()> {
+    let signed = signing::sign(
         stretch(memory, 2),
         stretch(memory, 4),
         stretch(memory, 6),
         bytes::word(memory, 8),
         signature,
-    ));
+    );
+    print_signed(rt, signed)
 }
 
-// The team number that stands as number i.
-fn team(memory: &[u8], i: usize) -> u16 {
-    (bytes::word(memory, i) % 65536) as u16
-}
-
-fn sign_roster(memory: &[u8], signature: &mut [u8]) {
-    print_signed(signing::sign_roster(
+fn sign_roster(rt: &impl Print, memory: &[u8], signature: &mut [u8]) -> io::Result<()> {
+    let signed = signing::sign_roster(
         stretch(memory, 2),
-        team(memory, 9),
+        bytes::short(memory, 9),
         stretch(memory, 4),
         stretch(memory, 6),
         bytes::word(memory, 8),
         signature,
-    ));
+    );
+    print_signed(rt, signed)
 }
 
-fn check(memory: &[u8]) {
-    bytes::print_answer(checking::check(
-        stretch(memory, 0),
-        stretch(memory, 2),
-        stretch(memory, 4),
-    ));
+fn check(rt: &impl Print, memory: &[u8]) -> io::Result<()> {
+    let answer = checking::check(stretch(memory, 0), stretch(memory, 2), stretch(memory, 4));
+    bytes::print_answer(rt, &answer)
 }
 
 // ---- the records and the envelope written
 
-fn write_t(memory: &[u8], t: &mut [u32], public: &mut [u8]) {
-    let n = bytes::words(stretch(memory, 2), t);
-    bytes::print_answer(records::write_public(&t[..n], stretch(memory, 4), public));
+fn write_public(rt: &impl Print, memory: &[u8], public: &mut [u8]) -> io::Result<()> {
+    let mut room = [0; 4100];
+    let t = bytes::values(stretch(memory, 2), &mut room, u32::from_le_bytes);
+    let answer = records::write_public(t, stretch(memory, 4), public);
+    bytes::print_answer(rt, &answer)
 }
 
-fn write_public(memory: &[u8], public: &mut [u8]) {
-    let mut t = bytes::room_of_words();
-    write_t(memory, &mut t, public);
-}
-
-fn write_secret(memory: &[u8], secret: &mut [u8]) {
-    bytes::print_answer(records::write_secret(
+fn write_secret(rt: &impl Print, memory: &[u8], secret: &mut [u8]) -> io::Result<()> {
+    let answer = records::write_secret(
         stretch(memory, 2),
         stretch(memory, 4),
         stretch(memory, 6),
         stretch(memory, 8),
         stretch(memory, 10),
         secret,
-    ));
+    );
+    bytes::print_answer(rt, &answer)
 }
 
-fn write_z(memory: &[u8], z: &mut [i32], signature: &mut [u8]) {
-    let n = bytes::signed_words(stretch(memory, 2), z);
-    bytes::print_answer(signatures::write_signature(&z[..n], stretch(memory, 4), signature));
+fn write_signature(rt: &impl Print, memory: &[u8], signature: &mut [u8]) -> io::Result<()> {
+    let mut room = [0; 2048];
+    let z = bytes::values(stretch(memory, 2), &mut room, i32::from_le_bytes);
+    let answer = signatures::write_signature(z, stretch(memory, 4), signature);
+    bytes::print_answer(rt, &answer)
 }
 
-fn write_signature(memory: &[u8], signature: &mut [u8]) {
-    let mut z = bytes::room_of_signed();
-    write_z(memory, &mut z, signature);
-}
-
-fn write_envelope(memory: &[u8], envelope: &mut [u8]) {
-    bytes::print_answer(envelope::write(
-        team(memory, 6),
+fn write_envelope(rt: &impl Print, memory: &[u8], envelope: &mut [u8]) -> io::Result<()> {
+    let answer = envelope::write(
+        bytes::short(memory, 6),
         stretch(memory, 2),
         stretch(memory, 4),
         envelope,
-    ));
+    );
+    bytes::print_answer(rt, &answer)
 }
 
 // One of them into what is lent of its room.
-fn write_lent(letter: u8, memory: &mut [u8], lent: &mut [u8]) {
+fn write_lent(rt: &impl Print, letter: u8, memory: &mut [u8], lent: &mut [u8]) -> io::Result<()> {
     match letter {
-        b'K' => make_key(memory, lent),
-        b'S' => sign(memory, lent),
-        b'R' => sign_roster(memory, lent),
-        b'P' => write_public(memory, lent),
-        b'E' => write_secret(memory, lent),
-        b'V' => write_envelope(memory, lent),
-        _ => write_signature(memory, lent),
+        b'K' => make_key(rt, memory, lent),
+        b'S' => sign(rt, memory, lent),
+        b'R' => sign_roster(rt, memory, lent),
+        b'P' => write_public(rt, memory, lent),
+        b'E' => write_secret(rt, memory, lent),
+        b'V' => write_envelope(rt, memory, lent),
+        _ => write_signature(rt, memory, lent),
     }
 }
 
 // The room is taken from the memory, and put back after.
-fn write_room(letter: u8, memory: &mut [u8], room: &mut [u8]) {
-    load(memory, 0, room);
-    let n = bytes::fit(memory, 1, room);
-    write_lent(letter, memory, &mut room[..n]);
-    bytes::hash_all(room);
-    store(room, memory, 0);
-}
-
-fn write(letter: u8, memory: &mut [u8]) {
-    if letter == b'V' {
-        let mut room = bytes::room_of_envelope();
-        write_room(letter, memory, &mut room);
+fn write(rt: &impl Print, letter: u8, memory: &mut [u8]) -> io::Result<()> {
+    let len = if letter == b'V' {
+        ENVELOPE_ROOM
     } else {
-        let mut room = bytes::room();
-        write_room(letter, memory, &mut room);
-    }
+        RECORD_ROOM
+    };
+    let mut most = [0xA5; ENVELOPE_ROOM];
+    let room = &mut most[..len];
+    load(memory, 0, room);
+    write_lent(rt, letter, memory, bytes::lend(memory, 1, room))?;
+    bytes::print_hash(rt, room)?;
+    store(room, memory, 0);
+    Ok(())
 }
 
 // ---- the records read
 
-fn read_public(memory: &[u8]) {
-    let mut place = bytes::room_of_words();
-    let t: &mut [u32] = &mut place;
-    let n = bytes::fit_words(memory, 2, t);
-    let mut room = bytes::room();
-    let seed_a: &mut [u8] = &mut room;
-    let m = bytes::fit(memory, 3, seed_a);
-    bytes::print_answer(records::read_public(stretch(memory, 0), &mut t[..n], &mut seed_a[..m]));
-    bytes::print_squeezed(bytes::absorb_words(Sponge::blank(), t, n, false));
-    bytes::hash(seed_a, m);
+fn read_public(rt: &impl Print, memory: &[u8]) -> io::Result<()> {
+    let mut t_room = [0xA5A5A5A5; 4100];
+    let t = bytes::lend(memory, 2, &mut t_room);
+    let mut room = [0xA5; RECORD_ROOM];
+    let seed_a = bytes::lend(memory, 3, &mut room);
+    let answer = records::read_public(stretch(memory, 0), t, seed_a);
+    bytes::print_answer(rt, &answer)?;
+    bytes::print_values_hash(rt, t, u32::to_le_bytes)?;
+    bytes::print_hash(rt, seed_a)
 }
 
-fn read_signature(memory: &[u8]) {
-    let mut place = bytes::room_of_signed();
-    let z: &mut [i32] = &mut place;
-    let n = bytes::fit_signed(memory, 2, z);
-    let mut room = bytes::room();
-    let c: &mut [u8] = &mut room;
-    let m = bytes::fit(memory, 3, c);
-    bytes::print_answer(signatures::read_signature(stretch(memory, 0), &mut z[..n], &mut c[..m]));
-    bytes::print_squeezed(bytes::absorb_signed(Sponge::blank(), z, n, false));
-    bytes::hash(c, m);
+fn read_secret(rt: &impl Print, memory: &[u8]) -> io::Result<()> {
+    let mut s_room = [0xA5; RECORD_ROOM];
+    let s = bytes::lend(memory, 2, &mut s_room);
+    let mut e_room = [0xA5; RECORD_ROOM];
+    let e = bytes::lend(memory, 3, &mut e_room);
+    let mut seed_a_room = [0xA5; RECORD_ROOM];
+    let seed_a = bytes::lend(memory, 4, &mut seed_a_room);
+    let mut seed_y_room = [0xA5; RECORD_ROOM];
+    let seed_y = bytes::lend(memory, 5, &mut seed_y_room);
+    let mut g_room = [0xA5; RECORD_ROOM];
+    let g = bytes::lend(memory, 6, &mut g_room);
+    let answer = records::read_secret(stretch(memory, 0), s, e, seed_a, seed_y, g);
+    bytes::print_answer(rt, &answer)?;
+    bytes::print_hash(rt, s)?;
+    bytes::print_hash(rt, e)?;
+    bytes::print_hash(rt, seed_a)?;
+    bytes::print_hash(rt, seed_y)?;
+    bytes::print_hash(rt, g)
 }
 
-// The secret record's outputs, one after another, so that no function makes them all.
-fn read_s(memory: &[u8], e: &mut [u8], seed_a: &mut [u8], seed_y: &mut [u8], g: &mut [u8]) {
-    let mut room = bytes::room();
-    let s: &mut [u8] = &mut room;
-    let n = bytes::fit(memory, 2, s);
-    bytes::print_answer(records::read_secret(
-        stretch(memory, 0),
-        &mut s[..n],
-        e,
-        seed_a,
-        seed_y,
-        g,
-    ));
-    bytes::hash(s, n);
-}
-
-fn read_e(memory: &[u8], seed_a: &mut [u8], seed_y: &mut [u8], g: &mut [u8]) {
-    let mut room = bytes::room();
-    let e: &mut [u8] = &mut room;
-    let n = bytes::fit(memory, 3, e);
-    read_s(memory, &mut e[..n], seed_a, seed_y, g);
-    bytes::hash(e, n);
-}
-
-fn read_seed_a(memory: &[u8], seed_y: &mut [u8], g: &mut [u8]) {
-    let mut room = bytes::room();
-    let seed_a: &mut [u8] = &mut room;
-    let n = bytes::fit(memory, 4, seed_a);
-    read_e(memory, &mut seed_a[..n], seed_y, g);
-    bytes::hash(seed_a, n);
-}
-
-fn read_seed_y(memory: &[u8], g: &mut [u8]) {
-    let mut room = bytes::room();
-    let seed_y: &mut [u8] = &mut room;
-    let n = bytes::fit(memory, 5, seed_y);
-    read_seed_a(memory, &mut seed_y[..n], g);
-    bytes::hash(seed_y, n);
-}
-
-fn read_g(memory: &[u8]) {
-    let mut room = bytes::room();
-    let g: &mut [u8] = &mut room;
-    let n = bytes::fit(memory, 6, g);
-    read_seed_y(memory, &mut g[..n]);
-    bytes::hash(g, n);
+fn read_signature(rt: &impl Print, memory: &[u8]) -> io::Result<()> {
+    let mut z_room = [0xA5A5A5A5u32.cast_signed(); 2048];
+    let z = bytes::lend(memory, 2, &mut z_room);
+    let mut room = [0xA5; RECORD_ROOM];
+    let c = bytes::lend(memory, 3, &mut room);
+    let answer = signatures::read_signature(stretch(memory, 0), z, c);
+    bytes::print_answer(rt, &answer)?;
+    bytes::print_values_hash(rt, z, i32::to_le_bytes)?;
+    bytes::print_hash(rt, c)
 }
 
 // ---- the envelope read and opened
 
+// What a refusal leaves: no team, and the empty roster.
+const NOTHING: Opened = Opened { team: 0, len: 0 };
+
 // The number, the team number and the hash of the roster.
-fn print_opened(answer: Result<Opened, Refusal>, envelope: &[u8]) {
-    let opened = answer.unwrap_or(Opened { team: 0, len: 0 });
-    bytes::print_byte(answers::number(&answer));
-    bytes::print_pair(opened.team);
-    bytes::hash_all(envelope::roster(envelope, opened.len));
+fn print_opened(
+    rt: &impl Print,
+    answer: Result<Opened, Refusal>,
+    envelope: &[u8],
+) -> io::Result<()> {
+    let opened = answer.unwrap_or(NOTHING);
+    bytes::print_answer(rt, &answer)?;
+    bytes::print(rt, &opened.team.to_le_bytes())?;
+    bytes::print_hash(rt, envelope::roster(envelope, opened.len))
 }
 
-fn read_envelope(envelope: &[u8]) {
+fn read_envelope(rt: &impl Print, envelope: &[u8]) -> io::Result<()> {
     let answer = envelope::read(envelope);
-    let opened = answer.unwrap_or(Opened { team: 0, len: 0 });
-    print_opened(answer, envelope);
-    bytes::hash_all(envelope::signature(envelope, opened.len));
+    print_opened(rt, answer, envelope)?;
+    let len = answer.unwrap_or(NOTHING).len;
+    bytes::print_hash(rt, envelope::signature(envelope, len))
 }
 
-fn open_envelope(public: &[u8], envelope: &[u8]) {
-    print_opened(envelope::open(public, envelope), envelope);
-    bytes::hash_all(envelope::open_roster(public, envelope));
+fn open_envelope(rt: &impl Print, public: &[u8], envelope: &[u8]) -> io::Result<()> {
+    print_opened(rt, envelope::open(public, envelope), envelope)?;
+    bytes::print_hash(rt, envelope::open_roster(public, envelope))
 }
 
-pub fn run(letter: u8, given: &[u8], memory: &mut [u8]) {
+pub fn run(rt: &impl Print, letter: u8, given: &[u8], memory: &mut [u8]) -> io::Result<()> {
     if letter == b'W' {
         bytes::copy(bytes::rest(given, 4), memory, bytes::number(given, 0));
-        return;
+        return Ok(());
     }
     bytes::copy(given, memory, 0);
     match letter {
-        b'C' => check(memory),
-        b'Q' => read_public(memory),
-        b'F' => read_g(memory),
-        b'Y' => read_signature(memory),
-        b'N' => read_envelope(stretch(memory, 0)),
-        b'O' => open_envelope(stretch(memory, 0), stretch(memory, 2)),
-        _ => write(letter, memory),
+        b'C' => check(rt, memory),
+        b'Q' => read_public(rt, memory),
+        b'F' => read_secret(rt, memory),
+        b'Y' => read_signature(rt, memory),
+        b'N' => read_envelope(rt, stretch(memory, 0)),
+        b'O' => open_envelope(rt, stretch(memory, 0), stretch(memory, 2)),
+        _ => write(rt, letter, memory),
     }
 }

@@ -6,56 +6,46 @@
 //     =             squeezes 136 bytes, and writes them
 // Any other begins anew with a blank sponge.
 use crate::bytes;
-use shake::Sponge;
+use shake::{Block, OneByte, Sponge};
+use std::io;
 
-fn absorb_each(sponge: Sponge, bytes: &[u8]) -> Sponge {
-    let mut state = sponge;
-    let mut i = 0;
-    while i < bytes.len() {
-        let next = state.absorb_byte(bytes[i]);
-        state = next;
-        i += 1;
+fn absorb_each(mut sponge: Sponge, bytes: &[u8]) -> Sponge {
+    for b in bytes {
+        sponge = sponge.absorb_byte(*b);
     }
-    state
+    sponge
 }
 
-fn squeeze_each(sponge: Sponge, n: usize) -> Sponge {
-    let mut state = sponge;
-    let mut i = 0;
-    while i < n {
-        let one = state.squeeze_byte();
-        bytes::print_byte(one.byte);
-        let next = one.state;
-        state = next;
-        i += 1;
+fn squeeze_each(rt: &impl Print, mut sponge: Sponge, n: usize) -> io::Result<Sponge> {
+    for _ in 0..n {
+        let OneByte { state, byte } = sponge.squeeze_byte();
+        bytes::print(rt, &[byte])?;
+        sponge = state;
     }
-    state
+    Ok(sponge)
 }
 
-fn squeeze(sponge: Sponge, given: &[u8]) -> Sponge {
-    let mut buffer = io::buffer();
-    let out: &mut [u8] = &mut buffer;
-    let n = bytes::fit(given, 0, out);
-    let next = sponge.squeeze(&mut out[..n]);
-    bytes::print(bytes::part(out, 0, n));
-    next
+fn squeeze(rt: &impl Print, sponge: Sponge, given: &[u8]) -> io::Result<Sponge> {
+    let mut room = [0; 4096];
+    let out = bytes::lend(given, 0, &mut room);
+    let after = sponge.squeeze(out);
+    bytes::print(rt, out)?;
+    Ok(after)
 }
 
-fn block(sponge: Sponge) -> Sponge {
-    let squeezed = sponge.squeeze_block();
-    let bytes = squeezed.bytes;
-    bytes::print(&bytes);
-    let next = squeezed.state;
-    next
+fn squeeze_block(rt: &impl Print, sponge: Sponge) -> io::Result<Sponge> {
+    let Block { state, bytes } = sponge.squeeze_block();
+    bytes::print(rt, &bytes)?;
+    Ok(state)
 }
 
-pub fn run(letter: u8, given: &[u8], state: Sponge) -> Sponge {
+pub fn run(rt: &impl Print, letter: u8, given: &[u8], state: Sponge) -> io::Result<Sponge> {
     match letter {
-        b'<' => state.absorb(given),
-        b'(' => absorb_each(state, given),
-        b'>' => squeeze(state, given),
-        b')' => squeeze_each(state, bytes::number(given, 0)),
-        b'=' => block(state),
-        _ => Sponge::blank(),
+        b'<' => Ok(state.absorb(given)),
+        b'(' => Ok(absorb_each(state, given)),
+        b'>' => squeeze(rt, state, given),
+        b')' => squeeze_each(rt, state, bytes::number(given, 0)),
+        b'=' => squeeze_block(rt, state),
+        _ => Ok(Sponge::blank()),
     }
 }

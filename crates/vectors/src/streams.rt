@@ -11,57 +11,45 @@
 //     c  G, g, high parts          c'
 // The numbers needed, of signs too, are at most 2,048. Each byte of an output is A5 before the call, so that a refusal that touched it would
 // show.
-ghost use Rattle.std.specs.Prelude.{◌≡◌, length};
+ghost use Rattle.std.specs.Prelude.{length};
 ghost use Rattle.sampling.specs.Asks.{DrawY};
 
 use crate::bytes;
 use sets::{Numbers, Set, SetI};
 use shake::Sponge;
+use std::io;
 
 // ---- over a lent stream
 
-fn room_of_positions() -> [u16; 2048]
-    ensures { 2048 ≡ length result }
-{
-    [0xA5A5; 2048]
+fn lent_a(rt: &impl Print, given: &[u8]) -> io::Result<()> {
+    let mut room = [0xA5A5A5A5; 2048];
+    let out = bytes::lend(given, 0, &mut room);
+    let answer = sampling::take_a(bytes::rest(given, 4), out);
+    bytes::print_answer(rt, answer)?;
+    bytes::print_values(rt, out, u32::to_le_bytes)
 }
 
-fn room_of_signs() -> [i8; 2048]
-    ensures { 2048 ≡ length result }
-{
-    [-91; 2048]
+fn lent_y(rt: &impl Print, given: &[u8]) -> io::Result<()> {
+    let mut room = [0xA5A5A5A5u32.cast_signed(); 2048];
+    let out = bytes::lend(given, 0, &mut room);
+    let answer = sampling::take_y(bytes::rest(given, 4), out);
+    bytes::print_answer(rt, answer)?;
+    bytes::print_values(rt, out, i32::to_le_bytes)
 }
 
-fn lent_a(given: &[u8]) {
-    let mut room = bytes::room_of_words();
-    let out: &mut [u32] = &mut room;
-    let n = bytes::fit_words(given, 0, out);
-    bytes::print_answer(sampling::take_a(bytes::rest(given, 4), &mut out[..n]));
-    bytes::absorb_words(Sponge::blank(), out, n, true);
+fn lent_positions(rt: &impl Print, given: &[u8]) -> io::Result<()> {
+    let mut room = [0xA5A5; 2048];
+    let positions = bytes::lend(given, 0, &mut room);
+    let mut sign_room = [0xA5u8.cast_signed(); 2048];
+    let signs = bytes::lend(given, 1, &mut sign_room);
+    let answer = sampling::take_positions(bytes::rest(given, 8), positions, signs);
+    bytes::print_answer(rt, answer)?;
+    print_positions(rt, positions, signs)
 }
 
-fn lent_y(given: &[u8]) {
-    let mut room = bytes::room_of_signed();
-    let out: &mut [i32] = &mut room;
-    let n = bytes::fit_signed(given, 0, out);
-    bytes::print_answer(sampling::take_y(bytes::rest(given, 4), &mut out[..n]));
-    bytes::absorb_signed(Sponge::blank(), out, n, true);
-}
-
-fn lent_positions(given: &[u8]) {
-    let mut room = room_of_positions();
-    let positions: &mut [u16] = &mut room;
-    let n = bytes::fit_pairs(given, 0, positions);
-    let mut sign_room = room_of_signs();
-    let signs: &mut [i8] = &mut sign_room;
-    let m = bytes::fit_signs(given, 1, signs);
-    bytes::print_answer(sampling::take_positions(
-        bytes::rest(given, 8),
-        &mut positions[..n],
-        &mut signs[..m],
-    ));
-    bytes::print_pairs(positions, n);
-    bytes::print_signs(signs, m);
+fn print_positions(rt: &impl Print, positions: &[u16], signs: &[i8]) -> io::Result<()> {
+    bytes::print_values(rt, positions, u16::to_le_bytes)?;
+    bytes::print_values(rt, signs, i8::to_le_bytes)
 }
 
 // ---- drawn
@@ -70,56 +58,54 @@ fn lent_positions(given: &[u8]) {
 fn absorb_a(set: Numbers, seed_a: &[u8], a: &mut [u32]) -> Sponge
     requires { DrawY set (length a.old) }
 {
-    let k = set.k;
     let mut sponge = Sponge::blank();
     let mut stream = sampling::drawn::start_a(set, seed_a);
-    let mut i = 0;
-    while i < k {
-        let after = sampling::drawn::next_a(set, stream, a);
-        stream = after;
-        let more = bytes::absorb_words(sponge, a, a.len(), false);
-        sponge = more;
-        i += 1;
+    for _ in 0..set.k {
+        stream = sampling::drawn::next_a(set, stream, a);
+        sponge = bytes::absorb_values(sponge, a, u32::to_le_bytes);
     }
     sponge
 }
 
-fn drawn_a(seed_a: &[u8]) {
-    let mut a = [0u32; SetI::N];
-    bytes::print_squeezed(absorb_a(SetI::numbers(), seed_a, &mut a));
+fn drawn_a(rt: &impl Print, seed_a: &[u8]) -> io::Result<()> {
+    let mut a = [0; SetI::N];
+    bytes::print_squeezed(rt, absorb_a(SetI::numbers(), seed_a, &mut a))
 }
 
-fn drawn_y(given: &[u8]) {
-    let counter = (bytes::word(given, 0) % 65536) as u16;
-    let mut y = [0i32; SetI::N];
-    sampling::drawn::draw_y(SetI::numbers(), bytes::rest(given, 4), counter, &mut y);
-    bytes::print_squeezed(bytes::absorb_signed(Sponge::blank(), &y, SetI::N, false));
+fn drawn_y(rt: &impl Print, given: &[u8]) -> io::Result<()> {
+    let mut y = [0; SetI::N];
+    sampling::drawn::draw_y(
+        SetI::numbers(),
+        bytes::rest(given, 4),
+        bytes::short(given, 0),
+        &mut y,
+    );
+    bytes::print_values_hash(rt, &y, i32::to_le_bytes)
 }
 
-fn enc(c: &[u8]) {
-    let mut positions = [0u16; SetI::H];
-    let mut signs = [0i8; SetI::H];
+fn enc(rt: &impl Print, c: &[u8]) -> io::Result<()> {
+    let mut positions = [0; SetI::H];
+    let mut signs = [0; SetI::H];
     sampling::drawn::draw_enc(SetI::numbers(), c, &mut positions, &mut signs);
-    bytes::print_pairs(&positions, SetI::H);
-    bytes::print_signs(&signs, SetI::H);
+    print_positions(rt, &positions, &signs)
 }
 
 // ---- hashed
 
-fn message(given: &[u8]) {
-    let mut out = [0u8; 40];
+fn message(rt: &impl Print, given: &[u8]) -> io::Result<()> {
+    let mut out = [0; 40];
     sampling::digests::message_digest(SetI::numbers(), given, &mut out);
-    bytes::print(&out);
+    bytes::print(rt, &out)
 }
 
-fn key(given: &[u8]) {
-    let mut out = [0u8; 40];
+fn key(rt: &impl Print, given: &[u8]) -> io::Result<()> {
+    let mut out = [0; 40];
     sampling::digests::key_digest(SetI::numbers(), given, &mut out);
-    bytes::print(&out);
+    bytes::print(rt, &out)
 }
 
-fn rand(given: &[u8]) {
-    let mut out = [0u8; 32];
+fn rand(rt: &impl Print, given: &[u8]) -> io::Result<()> {
+    let mut out = [0; 32];
     sampling::digests::rand_of(
         SetI::numbers(),
         bytes::part(given, 0, 32),
@@ -127,11 +113,11 @@ fn rand(given: &[u8]) {
         bytes::rest(given, 64),
         &mut out,
     );
-    bytes::print(&out);
+    bytes::print(rt, &out)
 }
 
-fn challenge(given: &[u8]) {
-    let mut out = [0u8; 32];
+fn challenge(rt: &impl Print, given: &[u8]) -> io::Result<()> {
+    let mut out = [0; 32];
     let highs = SetI::fresh_challenge().absorb(bytes::rest(given, 80));
     sampling::digests::challenge_of(
         highs,
@@ -139,21 +125,21 @@ fn challenge(given: &[u8]) {
         bytes::part(given, 40, 40),
         &mut out,
     );
-    bytes::print(&out);
+    bytes::print(rt, &out)
 }
 
-pub fn run(letter: u8, given: &[u8]) {
+pub fn run(rt: &impl Print, letter: u8, given: &[u8]) -> io::Result<()> {
     match letter {
-        b'a' => lent_a(given),
-        b'y' => lent_y(given),
-        b'p' => lent_positions(given),
-        b'd' => drawn_a(given),
-        b's' => drawn_y(given),
-        b'e' => enc(given),
-        b'm' => message(given),
-        b'g' => key(given),
-        b'r' => rand(given),
-        b'c' => challenge(given),
-        _ => {}
+        b'a' => lent_a(rt, given),
+        b'y' => lent_y(rt, given),
+        b'p' => lent_positions(rt, given),
+        b'd' => drawn_a(rt, given),
+        b's' => drawn_y(rt, given),
+        b'e' => enc(rt, given),
+        b'm' => message(rt, given),
+        b'g' => key(rt, given),
+        b'r' => rand(rt, given),
+        b'c' => challenge(rt, given),
+        _ => Ok(()),
     }
 }

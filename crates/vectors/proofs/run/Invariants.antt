@@ -1,11 +1,6 @@
--- The loop of `vectors::run`. The memory keeps its length. Assumes nothing.
-use mathlib.Core.Path.{◌≡◌}
-use Prim.Native.Nat.{◌≤◌, ◌-◌}
-use lib.ListN.{length}
+-- The loop of `vectors::run` ends: each case leaves less of the input. Assumes nothing.
+use Rattle.std.proofs.Common.{length}
 use Rattle.vectors.proofs.run.Given as goal
 
-abbrev pub invariant-loop-at : goal.invariant-loop-at
-invariant-loop-at l = (l.at ≤ length l.s) × (length l.memory ≡ length l.initial.memory)
-
-abbrev pub decreases-loop-at : goal.decreases-loop-at
-decreases-loop-at l = length l.s - l.at
+abbrev pub decreases-loop-letter : goal.decreases-loop-letter
+decreases-loop-letter g l = length l.rest
