@@ -13,7 +13,7 @@ ghost use Rattle.sets.specs.SetI.{set_i};
 ghost use Rattle.checking.specs.Check.{digest_tests, check_tests};
 
 use answers::Refusal;
-use sets::{DIGEST_BYTES, Numbers, Set, SetI};
+use sets::{DIGEST_BYTES, Numbers, Parameters, SetI};
 
 // Whether the signature record on the message passes under the public record.
 fn check_in(set: Numbers, public: &[u8], message: &[u8], signature: &[u8]) -> Result<(), Refusal>

@@ -17,7 +17,7 @@ ghost use Rattle.envelope.specs.Program.{program_tests, envelope_part};
 ghost use Rattle.envelope.specs.Promises.{WritesEnvelope, Opens, opened_team, opened_len};
 
 use answers::Refusal;
-use sets::{Set, SetI};
+use sets::{Parameters, SetI};
 
 // What reading and opening give: the team number and the roster's length.
 #[derive(Clone, Copy, Debug, PartialEq, Eq)]

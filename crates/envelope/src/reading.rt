@@ -15,7 +15,7 @@ ghost use Rattle.envelope.specs.Promises.{opened};
 use crate::{Opened, head, parts};
 use answers::Refusal;
 use records::pieces;
-use sets::{DIGEST_BYTES, Numbers, Set, SetI};
+use sets::{DIGEST_BYTES, Numbers, Parameters, SetI};
 
 // The tests of a signature record that has its length: its mark and z.
 fn test_signed(set: Numbers, signature: &[u8]) -> Result<(), Refusal>

@@ -4,13 +4,11 @@
 
 ghost use Rattle.std.specs.Prelude.{◌≡◌, []};
 ghost use Rattle.sets.specs.Good.{Good};
-ghost use Rattle.sets.specs.Known.{Known};
-ghost use Rattle.sets.specs.SetI.{set_i};
 ghost use Rattle.sampling.specs.Residues.{Residues};
 ghost use Rattle.highs.specs.Highs.{Held, Adds, Hashes};
 ghost use Rattle.highs.specs.Asks.{Absorbs};
 
-use sets::{Numbers, SEED_BYTES, SetI, Stream};
+use sets::{Numbers, SEED_BYTES, Set, SetI, Stream};
 use shake::Sponge;
 
 #[derive(Drop)]
@@ -46,26 +44,26 @@ fn add_highs_in(set: Numbers, highs: Highs, v: &[u32], bytes: &mut [u8]) -> High
     }
 }
 
-// The same in set I: makes the scratch.
-fn add_highs_i(set: Numbers, highs: Highs, v: &[u32]) -> Highs
-    requires set_value { set ≡ set_i }
+// The same with scratch of its own.
+fn add_highs_of<const N: usize>(set: Numbers, highs: Highs, v: &[u32]) -> Highs
+    requires good { Good set }
+    requires n_is { set.n ≡ N }
     requires residues { Residues set v.now }
     ensures { Adds set highs v.now result }
 {
-    let mut bytes = [0u8; SetI::N];
+    let mut bytes = [0u8; N];
     add_highs_in(set, highs, v, &mut bytes)
 }
 
 // The same in every set that there is.
-pub fn add_highs(set: Numbers, highs: Highs, v: &[u32]) -> Highs
-    requires known { Known set }
-    requires residues { Residues set v.now }
-    ensures { Adds set highs v.now result }
+#[tactic(auto, using(sets::specs::Known::no_other))]
+pub fn add_highs(set: Set, highs: Highs, v: &[u32]) -> Highs
+    requires { Residues set.numbers v.now }
+    ensures { Adds set.numbers highs v.now result }
 {
-    let digit = set.digit;
-    match digit {
-        1 => add_highs_i(set, highs, v),
-        _ => highs,
+    match set.numbers.digit {
+        1 => add_highs_of::<{ SetI::N }>(set.numbers, highs, v),
+        _ => unreachable!(),
     }
 }
 

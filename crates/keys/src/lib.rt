@@ -7,16 +7,15 @@ mod secret;
 pub mod tests;
 
 ghost use Rattle.answers.specs.Answers.{number_of};
-ghost use Rattle.sets.specs.Known.{Known};
 ghost use Rattle.sets.specs.SetI.{set_i};
 ghost use Rattle.keys.specs.Promises.{MakesKey};
 
 use answers::Refusal;
-use sets::{Numbers, Set, SetI};
+use sets::Set;
 
 // Makes a key, with every test first.
 fn make(
-    set: Numbers,
+    set: Set,
     s: &[u8],
     e: &[u8],
     seed_a: &[u8],
@@ -24,12 +23,19 @@ fn make(
     public: &mut [u8],
     secret: &mut [u8],
 ) -> Result<(), Refusal>
-    requires { Known set }
-    ensures { MakesKey set s.now e.now seed_a.now seed_y.now public.old public.new secret.old secret.new (number_of result) }
+    ensures { MakesKey set.numbers s.now e.now seed_a.now seed_y.now public.old public.new secret.old secret.new (number_of result) }
 {
-    tests::test_inputs(set, s, e, seed_a, seed_y, public.len(), secret.len())?;
+    tests::test_inputs(
+        set.numbers,
+        s,
+        e,
+        seed_a,
+        seed_y,
+        public.len(),
+        secret.len(),
+    )?;
     public::put_public(set, s, e, seed_a, public);
-    secret::put_secret(set, s, e, seed_a, seed_y, public, secret);
+    secret::put_secret(set.numbers, s, e, seed_a, seed_y, public, secret);
     Ok(())
 }
 
@@ -44,5 +50,5 @@ pub fn make_key(
 ) -> Result<(), Refusal>
     ensures { MakesKey set_i s.now e.now seed_a.now seed_y.now public.old public.new secret.old secret.new (number_of result) }
 {
-    make(SetI::numbers(), s, e, seed_a, seed_y, public, secret)
+    make(Set::i(), s, e, seed_a, seed_y, public, secret)
 }

@@ -1,13 +1,12 @@
 // t_i = a_i s + e_i, one i after another, each into its own stretch of the public record.
 ghost use Rattle.std.specs.Prelude.{◌≡◌};
-ghost use Rattle.sets.specs.Known.{Known};
-ghost use Rattle.sets.specs.SetI.{set_i};
+ghost use Rattle.sets.specs.Good.{Good};
 ghost use Rattle.keys.specs.Asks.{Places, ForT, ForNext, ForOne, ForPut, ForPublic};
 ghost use Rattle.keys.specs.Key.{sum_of, public_of};
 ghost use Rattle.keys.specs.Promises.{OneMore, PutsOne, PutsT};
 
 use sampling::drawn::DrawA;
-use sets::{Numbers, SetI};
+use sets::{Numbers, Set, SetI};
 
 // t = a s + e modulo q. sr takes s modulo q.
 fn sum_of(set: Numbers, a: &[u32], s: &[u8], e: &[u8], sr: &mut [u32], t: &mut [u32])
@@ -60,50 +59,55 @@ fn put_next_in(
     next
 }
 
-// The same in set I: makes the places for the polynomials.
-fn put_next_i(set: Numbers, draw: DrawA, s: &[u8], e: &[u8], i: usize, public: &mut [u8]) -> DrawA
-    requires set_value { set ≡ set_i }
+// The same with places of its own for the polynomials.
+fn put_next_of<const N: usize>(
+    set: Numbers,
+    draw: DrawA,
+    s: &[u8],
+    e: &[u8],
+    i: usize,
+    public: &mut [u8],
+) -> DrawA
+    requires good { Good set }
+    requires n_is { set.n ≡ N }
     requires for_one { ForOne set draw s.now e.now i public.old }
     ensures { PutsOne set draw s.now e.now i public.old public.new result }
 {
-    let mut a = [0u32; SetI::N];
-    let mut sr = [0u32; SetI::N];
-    let mut t = [0u32; SetI::N];
+    let mut a = [0u32; N];
+    let mut sr = [0u32; N];
+    let mut t = [0u32; N];
     put_next_in(set, draw, s, e, i, &mut a, &mut sr, &mut t, public)
 }
 
 // The same in every set that there is.
-fn put_next(set: Numbers, draw: DrawA, s: &[u8], e: &[u8], i: usize, public: &mut [u8]) -> DrawA
-    requires known { Known set }
-    requires for_one { ForOne set draw s.now e.now i public.old }
-    ensures { PutsOne set draw s.now e.now i public.old public.new result }
+#[tactic(auto, using(sets::specs::Known::no_other))]
+fn put_next(set: Set, draw: DrawA, s: &[u8], e: &[u8], i: usize, public: &mut [u8]) -> DrawA
+    requires { ForOne set.numbers draw s.now e.now i public.old }
+    ensures { PutsOne set.numbers draw s.now e.now i public.old public.new result }
 {
-    let digit = set.digit;
-    match digit {
-        1 => put_next_i(set, draw, s, e, i, public),
-        _ => draw,
+    match set.numbers.digit {
+        1 => put_next_of::<{ SetI::N }>(set.numbers, draw, s, e, i, public),
+        _ => unreachable!(),
     }
 }
 
 // Writes t_1..t_k, each packed into its own stretch of the public record. The mark and what follows stay.
-fn put_t(set: Numbers, s: &[u8], e: &[u8], seed_a: &[u8], public: &mut [u8])
-    requires known { Known set }
-    requires for_put { ForPut set s.now e.now public.old }
-    ensures { PutsT set s.now e.now seed_a.now public.old public.new }
+fn put_t(set: Set, s: &[u8], e: &[u8], seed_a: &[u8], public: &mut [u8])
+    requires { ForPut set.numbers s.now e.now public.old }
+    ensures { PutsT set.numbers s.now e.now seed_a.now public.old public.new }
 {
-    let mut draw = sampling::drawn::start_a(set, seed_a);
-    for (i, e_i) in e.chunks_exact(set.n).enumerate() {
+    let mut draw = sampling::drawn::start_a(set.numbers, seed_a);
+    for (i, e_i) in e.chunks_exact(set.numbers.n).enumerate() {
         draw = put_next(set, draw, s, e_i, i, public);
     }
 }
 
 // Writes the public record of s, e_1..e_k and seed_a.
-pub(crate) fn put_public(set: Numbers, s: &[u8], e: &[u8], seed_a: &[u8], public: &mut [u8])
-    requires known { Known set }
-    requires for_public { ForPublic set s.now e.now seed_a.now public.old }
-    ensures { public.new ≡ public_of set s.now e.now seed_a.now }
+pub(crate) fn put_public(set: Set, s: &[u8], e: &[u8], seed_a: &[u8], public: &mut [u8])
+    requires { ForPublic set.numbers s.now e.now seed_a.now public.old }
+    ensures { public.new ≡ public_of set.numbers s.now e.now seed_a.now }
 {
-    records::pieces::write_mark(set, 1, public);
+    records::pieces::write_mark(set.numbers, 1, public);
     put_t(set, s, e, seed_a, public);
-    records::pieces::copy_at(seed_a, public, records::public::seed_start(set));
+    records::pieces::copy_at(seed_a, public, records::public::seed_start(set.numbers));
 }

@@ -4,7 +4,6 @@ ghost use Rattle.answers.specs.Answers.{number_of};
 ghost use Rattle.answers.specs.Tests.{Answered};
 ghost use Rattle.packing.specs.Digits.{packed};
 ghost use Rattle.sets.specs.Good.{Good};
-ghost use Rattle.sets.specs.SetI.{set_i};
 ghost use Rattle.records.specs.Layout.{t_bytes, public_bytes};
 ghost use Rattle.records.specs.Public.{public_record, packed_t, t_of, all_t, t_in_range, public_tests, read_public_tests, write_public_tests};
 ghost use Rattle.records.specs.Asks.{StartsT, ReadsT, PacksT, ScansT, LongPublic, ReadsAllT, PacksAllT, PutsPublic, TakesPublic};

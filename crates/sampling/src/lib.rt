@@ -19,7 +19,7 @@ ghost use Rattle.sampling.specs.Promises.{Upward, TakesA, TakesY, TakesPositions
 ghost use Rattle.sampling.specs.Stored.{Stored, StoredDrawn};
 
 use answers::Refusal;
-use sets::{Numbers, Set, SetI};
+use sets::{Numbers, Parameters, SetI};
 
 // ---- numbers as bytes
 

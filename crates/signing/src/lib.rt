@@ -17,7 +17,7 @@ ghost use Rattle.signing.specs.Asks.{SearchesKey};
 
 use answers::Refusal;
 use search::search_key;
-use sets::{DIGEST_BYTES, Numbers, SEED_BYTES, Set, SetI};
+use sets::{DIGEST_BYTES, Numbers, Parameters, SEED_BYTES, SetI};
 
 // G of a message in two pieces, and rand of the secret record's seed_y, r and that digest.
 fn hash_message(

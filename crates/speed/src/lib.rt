@@ -11,7 +11,7 @@ ghost use Rattle.records.specs.Public.{t_in_range};
 ghost use Rattle.records.specs.Secret.{secret_seed_a};
 ghost use Rattle.speed.specs.Promises.{PacksOne, multiplies, Multiplies};
 
-use sets::{Numbers, Set, SetI};
+use sets::{Numbers, Parameters, SetI};
 
 // bytes of a secret record, and of a packed polynomial
 const SECRET_BYTES: usize = 5226;

@@ -15,7 +15,7 @@ ghost use Rattle.std.specs.Prelude.{length};
 ghost use Rattle.sampling.specs.Asks.{DrawY};
 
 use crate::bytes;
-use sets::{Numbers, Set, SetI};
+use sets::{Numbers, Parameters, SetI};
 use shake::Sponge;
 use std::io;
 

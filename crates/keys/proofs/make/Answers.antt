@@ -10,8 +10,8 @@ use Rattle.keys.proofs.make.Goals as goal
 pub test_inputs-requires : goal.test_inputs-requires
 test_inputs-requires c = search (known_good, rules)
 
-pub put_public-requires-clause-for_public : goal.put_public-requires-clause-for_public
-put_public-requires-clause-for_public c = search (passed_public, c.in_ok-test_inputs.ensures, rules)
+pub put_public-requires : goal.put_public-requires
+put_public-requires c = search (passed_public, c.in_ok-test_inputs.ensures, rules)
 
 pub put_secret-requires : goal.put_secret-requires
 put_secret-requires c = search (passed_secret, c.in_ok-test_inputs.ensures, rules)

@@ -1,29 +1,28 @@
 -- The goals of `keys::public::put_t` that want an answer by hand. Assumes nothing.
-use Rattle.sets.specs.Known.{known_good}
 use Rattle.records.specs.ChunksLaws.{n_some, ahead_comes, ahead_ends}
 use Rattle.keys.proofs.PutSteps.{turn_none, one_asks, turn_more, turn_all}
 use Rattle.keys.proofs.public.put_t.Goals as goal
 
 pub start_a-draw-requires : goal.start_a-draw-requires
-start_a-draw-requires c = known_good c.requires.known
+start_a-draw-requires c = c.args.set.good
 
 pub chunks_exact-requires : goal.chunks_exact-requires
-chunks_exact-requires c = n_some (known_good c.requires.known)
+chunks_exact-requires c = n_some c.args.set.good
 
 pub loop-i-init : goal.loop-i-init
-loop-i-init c = turn_none c.requires.for_put (cc) (cc) (cc) c.start_a-draw.ensures
+loop-i-init c = turn_none c.requires (cc) (cc) (cc) c.start_a-draw.ensures
 
-pub put_next-draw-requires-clause-for_one : goal.put_next-draw-requires-clause-for_one
-put_next-draw-requires-clause-for_one c =
-    one_asks c.requires.for_put c.loop-i.invariant
-    (ahead_comes (known_good c.requires.known) _ c.requires.for_put.e_long c.loop-i.invariant.ahead c.next.new.self c.in-Some.e_i c.in-Some.ensures.steps) c.requires.known
+pub put_next-draw-requires : goal.put_next-draw-requires
+put_next-draw-requires c =
+    one_asks c.requires c.loop-i.invariant
+    (ahead_comes c.args.set.good _ c.requires.e_long c.loop-i.invariant.ahead c.next.new.self c.in-Some.e_i c.in-Some.ensures.steps) c.args.set.known
 
 pub loop-i-preserved : goal.loop-i-preserved
 loop-i-preserved c =
-    turn_more c.requires.for_put c.loop-i.invariant
-    (ahead_comes (known_good c.requires.known) _ c.requires.for_put.e_long c.loop-i.invariant.ahead c.next.new.self c.in-Some.e_i c.in-Some.ensures.steps) c.put_next-draw.ensures
+    turn_more c.requires c.loop-i.invariant
+    (ahead_comes c.args.set.good _ c.requires.e_long c.loop-i.invariant.ahead c.next.new.self c.in-Some.e_i c.in-Some.ensures.steps) c.put_next-draw.ensures
 
 pub returns : goal.returns
 returns c =
-    turn_all c.requires.for_put c.loop-i.invariant
-    (ahead_ends (known_good c.requires.known) _ c.requires.for_put.e_long c.loop-i.invariant.ahead c.next.new.self c.in-None.ensures.steps)
+    turn_all c.requires c.loop-i.invariant
+    (ahead_ends c.args.set.good _ c.requires.e_long c.loop-i.invariant.ahead c.next.new.self c.in-None.ensures.steps)

@@ -4,4 +4,4 @@ use Rattle.keys.proofs.PutSteps.{Turn}
 use Rattle.keys.proofs.public.put_t.Given as goal
 
 abbrev pub invariant-loop-i : goal.invariant-loop-i
-invariant-loop-i l = Turn l.set l.s l.e l.seed_a l.initial.public l.public l.draw l.i-iterator
+invariant-loop-i l = Turn l.set.numbers l.s l.e l.seed_a l.initial.public l.public l.draw l.i-iterator
