@@ -3,15 +3,13 @@ ghost use Rattle.std.specs.Prelude.{◌≡◌};
 ghost use Rattle.whole.specs.Every.{same_bytes};
 ghost use Rattle.answers.specs.Answers.{number_of};
 ghost use Rattle.sets.specs.Good.{Good};
-ghost use Rattle.sets.specs.Known.{Known};
-ghost use Rattle.sets.specs.SetI.{set_i};
 ghost use Rattle.checking.specs.Asks.{ForW, ForT, ForTIn};
 ghost use Rattle.checking.specs.Steps.{IsW, Begun, OneMore, Judged};
 
 use answers::Refusal;
 use highs::Highs;
 use sampling::drawn::DrawA;
-use sets::{DIGEST_BYTES, Numbers, SEED_BYTES, SetI};
+use sets::{DIGEST_BYTES, Numbers, SEED_BYTES, Set, SetI};
 
 // The receiver on its way through t_1..t_k.
 #[derive(Drop)]
@@ -53,7 +51,7 @@ fn one_w(
 
 // The next t_i: t holds it, and zr holds z modulo q. a takes its a_i, w its w_i.
 fn add_t_in(
-    set: Numbers,
+    set: Set,
     walk: Walk,
     t: &[u32],
     zr: &[u32],
@@ -62,48 +60,53 @@ fn add_t_in(
     a: &mut [u32],
     w: &mut [u32],
 ) -> Walk
-    requires known { Known set }
-    requires for_tin { ForTIn set walk.draw t.now zr.now positions.now signs.now a.old w.old }
-    ensures { OneMore set walk t.now zr.now positions.now signs.now result }
+    requires { ForTIn set.numbers walk.draw t.now zr.now positions.now signs.now a.old w.old }
+    ensures { OneMore set.numbers walk t.now zr.now positions.now signs.now result }
 {
     let before = walk.draw;
     let highs = walk.highs;
-    let draw = sampling::drawn::next_a(set, before, a);
-    one_w(set, t, zr, positions, signs, a, w);
+    let draw = sampling::drawn::next_a(set.numbers, before, a);
+    one_w(set.numbers, t, zr, positions, signs, a, w);
     Walk {
         draw,
         highs: highs::add_highs(set, highs, w),
     }
 }
 
-// The same in set I: makes the scratch.
-fn add_t_i(set: Numbers, walk: Walk, t: &[u32], zr: &[u32], positions: &[u16], signs: &[i8]) -> Walk
-    requires set_value { set ≡ set_i }
-    requires for_t { ForT set walk.draw t.now zr.now positions.now signs.now }
-    ensures { OneMore set walk t.now zr.now positions.now signs.now result }
-{
-    let mut a = [0u32; SetI::N];
-    let mut w = [0u32; SetI::N];
-    add_t_in(set, walk, t, zr, positions, signs, &mut a, &mut w)
-}
-
-// The same in every set that there is.
-pub(crate) fn add_t(
-    set: Numbers,
+// The same with scratch of its own.
+fn add_t_of<const N: usize>(
+    set: Set,
     walk: Walk,
     t: &[u32],
     zr: &[u32],
     positions: &[u16],
     signs: &[i8],
 ) -> Walk
-    requires known { Known set }
-    requires for_t { ForT set walk.draw t.now zr.now positions.now signs.now }
-    ensures { OneMore set walk t.now zr.now positions.now signs.now result }
+    requires n_is { set.numbers.n ≡ N }
+    requires for_t { ForT set.numbers walk.draw t.now zr.now positions.now signs.now }
+    ensures { OneMore set.numbers walk t.now zr.now positions.now signs.now result }
 {
-    let digit = set.digit;
-    match digit {
-        1 => add_t_i(set, walk, t, zr, positions, signs),
-        _ => walk,
+    let mut a = [0u32; N];
+    let mut w = [0u32; N];
+    add_t_in(set, walk, t, zr, positions, signs, &mut a, &mut w)
+}
+
+// The same in every set that there is.
+#[tactic(auto, using(sets::specs::Known::n_i, sets::specs::Known::no_other))]
+pub(crate) fn add_t(
+    set: Set,
+    walk: Walk,
+    t: &[u32],
+    zr: &[u32],
+    positions: &[u16],
+    signs: &[i8],
+) -> Walk
+    requires { ForT set.numbers walk.draw t.now zr.now positions.now signs.now }
+    ensures { OneMore set.numbers walk t.now zr.now positions.now signs.now result }
+{
+    match set.numbers.digit {
+        1 => add_t_of::<{ SetI::N }>(set, walk, t, zr, positions, signs),
+        _ => unreachable!(),
     }
 }
 

@@ -8,34 +8,31 @@ mod work;
 
 ghost use Rattle.answers.specs.Answers.{number_of};
 ghost use Rattle.answers.specs.Tests.{Answered};
-ghost use Rattle.sets.specs.Known.{Known};
 ghost use Rattle.sets.specs.SetI.{set_i};
 ghost use Rattle.checking.specs.Check.{digest_tests, check_tests};
 
 use answers::Refusal;
-use sets::{DIGEST_BYTES, Numbers, Parameters, SetI};
+use sets::{DIGEST_BYTES, Set};
 
 // Whether the signature record on the message passes under the public record.
-fn check_in(set: Numbers, public: &[u8], message: &[u8], signature: &[u8]) -> Result<(), Refusal>
-    requires { Known set }
-    ensures { Answered (check_tests set public.now message.now signature.now) (number_of result) }
+fn check_in(set: Set, public: &[u8], message: &[u8], signature: &[u8]) -> Result<(), Refusal>
+    ensures { Answered (check_tests set.numbers public.now message.now signature.now) (number_of result) }
 {
     tests::test_inputs(set, public, message.len(), signature)?;
     let mut digest = [0u8; DIGEST_BYTES];
-    sampling::digests::message_digest(set, message, &mut digest);
+    sampling::digests::message_digest(set.numbers, message, &mut digest);
     work::check_hash(set, public, &digest, signature)
 }
 
 // The same for a message of len bytes that is known by G of it, in whatever pieces it was hashed.
 fn check_digest_in(
-    set: Numbers,
+    set: Set,
     public: &[u8],
     len: usize,
     digest: &[u8; DIGEST_BYTES],
     signature: &[u8],
 ) -> Result<(), Refusal>
-    requires { Known set }
-    ensures { Answered (digest_tests set public.now len digest.now signature.now) (number_of result) }
+    ensures { Answered (digest_tests set.numbers public.now len digest.now signature.now) (number_of result) }
 {
     tests::test_inputs(set, public, len, signature)?;
     work::check_hash(set, public, digest, signature)
@@ -45,7 +42,7 @@ fn check_digest_in(
 pub fn check(public: &[u8], message: &[u8], signature: &[u8]) -> Result<(), Refusal>
     ensures { Answered (check_tests set_i public.now message.now signature.now) (number_of result) }
 {
-    check_in(SetI::numbers(), public, message, signature)
+    check_in(Set::i(), public, message, signature)
 }
 
 // Set I: the same for a message of len bytes that is known by G of it, under set I's mark. Whoever calls sees to it that digest is that.
@@ -57,5 +54,5 @@ pub fn check_digest(
 ) -> Result<(), Refusal>
     ensures { Answered (digest_tests set_i public.now len digest.now signature.now) (number_of result) }
 {
-    check_digest_in(SetI::numbers(), public, len, digest, signature)
+    check_digest_in(Set::i(), public, len, digest, signature)
 }

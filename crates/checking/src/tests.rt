@@ -1,32 +1,30 @@
 // The tests of checking's inputs, in document 01's order.
 ghost use Rattle.answers.specs.Answers.{number_of};
 ghost use Rattle.answers.specs.Tests.{Answered};
-ghost use Rattle.sets.specs.Known.{Known};
 ghost use Rattle.checking.specs.Check.{input_tests};
 
 use answers::Refusal;
-use sets::Numbers;
+use sets::Set;
 
 // The tests 1, 2, 3, 5 and 9, the message by its length.
 pub(crate) fn test_inputs(
-    set: Numbers,
+    set: Set,
     public: &[u8],
     message: usize,
     signature: &[u8],
 ) -> Result<(), Refusal>
-    requires { Known set }
-    ensures { Answered (input_tests set public.now message signature.now) (number_of result) }
+    ensures { Answered (input_tests set.numbers public.now message signature.now) (number_of result) }
 {
-    if public.len() != records::public::public_bytes(set) {
+    if public.len() != records::public::public_bytes(set.numbers) {
         return Err(Refusal::Length);
     }
-    if signature.len() != signatures::signature_bytes(set) {
+    if signature.len() != signatures::signature_bytes(set.numbers) {
         return Err(Refusal::Length);
     }
-    if !records::pieces::is_marked(set, 1, public) {
+    if !records::pieces::is_marked(set.numbers, 1, public) {
         return Err(Refusal::Mark);
     }
-    if !records::pieces::is_marked(set, 3, signature) {
+    if !records::pieces::is_marked(set.numbers, 3, signature) {
         return Err(Refusal::Mark);
     }
     if sets::MESSAGE_LIMIT < message {

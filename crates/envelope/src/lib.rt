@@ -17,7 +17,7 @@ ghost use Rattle.envelope.specs.Program.{program_tests, envelope_part};
 ghost use Rattle.envelope.specs.Promises.{WritesEnvelope, Opens, opened_team, opened_len};
 
 use answers::Refusal;
-use sets::{Parameters, SetI};
+use sets::{Parameters, Set, SetI};
 
 // What reading and opening give: the team number and the roster's length.
 #[derive(Clone, Copy, Debug, PartialEq, Eq)]
@@ -30,14 +30,14 @@ pub struct Opened {
 pub fn write(team: u16, roster: &[u8], signature: &[u8], envelope: &mut [u8]) -> Result<(), Refusal>
     ensures { WritesEnvelope set_i team roster.now signature.now envelope.old envelope.new (number_of result) }
 {
-    writing::write(SetI::numbers(), team, roster, signature, envelope)
+    writing::write(Set::i(), team, roster, signature, envelope)
 }
 
 // Set I: reads an envelope, without the hash.
 pub fn read(envelope: &[u8]) -> Result<Opened, Refusal>
     ensures { Opens (read_tests set_i envelope.now) envelope.now (number_of result) (opened_team result) (opened_len result) }
 {
-    reading::test_read(SetI::numbers(), envelope)?;
+    reading::test_read(Set::i(), envelope)?;
     Ok(reading::opened(envelope))
 }
 

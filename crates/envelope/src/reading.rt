@@ -3,7 +3,6 @@ ghost use Rattle.std.specs.Prelude.{◌≡◌, [], ◌∷◌};
 ghost use Rattle.answers.specs.Answers.{number_of};
 ghost use Rattle.answers.specs.Tests.{◌or_else◌, Answered};
 ghost use Rattle.sets.specs.Good.{Good};
-ghost use Rattle.sets.specs.Known.{Known};
 ghost use Rattle.sets.specs.SetI.{set_i};
 ghost use Rattle.sampling.specs.Streams.{message_digest};
 ghost use Rattle.records.specs.Layout.{marked};
@@ -15,15 +14,14 @@ ghost use Rattle.envelope.specs.Promises.{opened};
 use crate::{Opened, head, parts};
 use answers::Refusal;
 use records::pieces;
-use sets::{DIGEST_BYTES, Numbers, Parameters, SetI};
+use sets::{DIGEST_BYTES, Numbers, Parameters, Set, SetI};
 
 // The tests of a signature record that has its length: its mark and z.
-fn test_signed(set: Numbers, signature: &[u8]) -> Result<(), Refusal>
-    requires known { Known set }
-    requires long_signature { LongSignature set signature.now }
-    ensures { Answered ((marked set 3 signature.now or_else 2) ∷ (z_in_range set (z_of set signature.now) or_else 9) ∷ []) (number_of result) }
+fn test_signed(set: Set, signature: &[u8]) -> Result<(), Refusal>
+    requires { LongSignature set.numbers signature.now }
+    ensures { Answered ((marked set.numbers 3 signature.now or_else 2) ∷ (z_in_range set.numbers (z_of set.numbers signature.now) or_else 9) ∷ []) (number_of result) }
 {
-    if !pieces::is_marked(set, 3, signature) {
+    if !pieces::is_marked(set.numbers, 3, signature) {
         return Err(Refusal::Mark);
     }
     if !signatures::z_passes(set, signature) {
@@ -33,12 +31,11 @@ fn test_signed(set: Numbers, signature: &[u8]) -> Result<(), Refusal>
 }
 
 // The tests of reading.
-pub(crate) fn test_read(set: Numbers, envelope: &[u8]) -> Result<(), Refusal>
-    requires { Known set }
-    ensures { Answered (read_tests set envelope.now) (number_of result) }
+pub(crate) fn test_read(set: Set, envelope: &[u8]) -> Result<(), Refusal>
+    ensures { Answered (read_tests set.numbers envelope.now) (number_of result) }
 {
-    head::test_head(set, envelope)?;
-    let signature = parts::signature_in(set, envelope, head::length_of(envelope));
+    head::test_head(set.numbers, envelope)?;
+    let signature = parts::signature_in(set.numbers, envelope, head::length_of(envelope));
     test_signed(set, signature)
 }
 

@@ -3,7 +3,6 @@ ghost use Rattle.std.specs.Prelude.{◌≡◌, ◌++◌, length, take, drop};
 ghost use Rattle.answers.specs.Answers.{number_of};
 ghost use Rattle.answers.specs.Tests.{Answered};
 ghost use Rattle.sets.specs.Good.{Good};
-ghost use Rattle.sets.specs.Known.{Known};
 ghost use Rattle.sampling.specs.Streams.{two_bytes};
 ghost use Rattle.envelope.specs.Envelope.{head_bytes, envelope_of, write_tests};
 ghost use Rattle.envelope.specs.Asks.{PutsNumbers, Writable};
@@ -13,20 +12,19 @@ use crate::head;
 use crate::head::HEAD_BYTES;
 use answers::Refusal;
 use records::pieces;
-use sets::Numbers;
+use sets::{Numbers, Set};
 
 // The tests of writing, the envelope by its length.
-fn test_write(set: Numbers, roster: &[u8], signature: &[u8], envelope: usize) -> Result<(), Refusal>
-    requires { Known set }
-    ensures { Answered (write_tests set roster.now signature.now envelope) (number_of result) }
+fn test_write(set: Set, roster: &[u8], signature: &[u8], envelope: usize) -> Result<(), Refusal>
+    ensures { Answered (write_tests set.numbers roster.now signature.now envelope) (number_of result) }
 {
-    if signature.len() != signatures::signature_bytes(set) {
+    if signature.len() != signatures::signature_bytes(set.numbers) {
         return Err(Refusal::Length);
     }
-    if !head::is_total(set, roster.len(), envelope) {
+    if !head::is_total(set.numbers, roster.len(), envelope) {
         return Err(Refusal::Length);
     }
-    if !pieces::is_marked(set, 3, signature) {
+    if !pieces::is_marked(set.numbers, 3, signature) {
         return Err(Refusal::Mark);
     }
     if sets::ROSTER_LIMIT < roster.len() {
@@ -64,16 +62,15 @@ fn put_envelope(set: Numbers, team: u16, roster: &[u8], signature: &[u8], envelo
 
 // Tests the signature record, the roster and the envelope's length, and writes the envelope.
 pub(crate) fn write(
-    set: Numbers,
+    set: Set,
     team: u16,
     roster: &[u8],
     signature: &[u8],
     envelope: &mut [u8],
 ) -> Result<(), Refusal>
-    requires { Known set }
-    ensures { WritesEnvelope set team roster.now signature.now envelope.old envelope.new (number_of result) }
+    ensures { WritesEnvelope set.numbers team roster.now signature.now envelope.old envelope.new (number_of result) }
 {
     test_write(set, roster, signature, envelope.len())?;
-    put_envelope(set, team, roster, signature, envelope);
+    put_envelope(set.numbers, team, roster, signature, envelope);
     Ok(())
 }

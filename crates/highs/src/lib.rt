@@ -56,7 +56,7 @@ fn add_highs_of<const N: usize>(set: Numbers, highs: Highs, v: &[u32]) -> Highs
 }
 
 // The same in every set that there is.
-#[tactic(auto, using(sets::specs::Known::no_other))]
+#[tactic(auto, using(sets::specs::Known::n_i, sets::specs::Known::no_other))]
 pub fn add_highs(set: Set, highs: Highs, v: &[u32]) -> Highs
     requires { Residues set.numbers v.now }
     ensures { Adds set.numbers highs v.now result }

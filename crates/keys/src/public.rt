@@ -80,7 +80,7 @@ fn put_next_of<const N: usize>(
 }
 
 // The same in every set that there is.
-#[tactic(auto, using(sets::specs::Known::no_other))]
+#[tactic(auto, using(sets::specs::Known::n_i, sets::specs::Known::no_other))]
 fn put_next(set: Set, draw: DrawA, s: &[u8], e: &[u8], i: usize, public: &mut [u8]) -> DrawA
     requires { ForOne set.numbers draw s.now e.now i public.old }
     ensures { PutsOne set.numbers draw s.now e.now i public.old public.new result }

@@ -106,7 +106,7 @@ fn t_passes_of<const N: usize>(set: Numbers, public: &[u8]) -> bool
 }
 
 // The same in every set that there is.
-#[tactic(auto, using(sets::specs::Known::no_other))]
+#[tactic(auto, using(sets::specs::Known::n_i, sets::specs::Known::no_other))]
 pub fn t_passes(set: Set, public: &[u8]) -> bool
     requires { LongPublic set.numbers public.now }
     ensures { result ≡ t_in_range set.numbers (all_t set.numbers public.now) }

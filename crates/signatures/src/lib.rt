@@ -102,7 +102,7 @@ fn z_passes_of<const N: usize>(set: Numbers, signature: &[u8]) -> bool
 }
 
 // The same in every set that there is.
-#[tactic(auto, using(sets::specs::Known::no_other))]
+#[tactic(auto, using(sets::specs::Known::n_i, sets::specs::Known::no_other))]
 pub fn z_passes(set: Set, signature: &[u8]) -> bool
     requires { LongSignature set.numbers signature.now }
     ensures { result ≡ z_in_range set.numbers (z_of set.numbers signature.now) }
@@ -161,7 +161,7 @@ fn put_of<const N: usize>(set: Numbers, z: &[i32], c: &[u8], signature: &mut [u8
 }
 
 // The same in every set that there is.
-#[tactic(auto, using(sets::specs::Known::no_other))]
+#[tactic(auto, using(sets::specs::Known::n_i, sets::specs::Known::no_other))]
 fn put(set: Set, z: &[i32], c: &[u8], signature: &mut [u8])
     requires { PutsSignature set.numbers z.now c.now signature.old }
     ensures { signature.new ≡ signature_record set.numbers z.now c.now }
@@ -222,7 +222,7 @@ fn take_z_of<const N: usize>(set: Numbers, signature: &[u8], z: &mut [i32])
 }
 
 // The same in every set that there is.
-#[tactic(auto, using(sets::specs::Known::no_other))]
+#[tactic(auto, using(sets::specs::Known::n_i, sets::specs::Known::no_other))]
 fn take_z(set: Set, signature: &[u8], z: &mut [i32])
     requires { TakesZ set.numbers signature.now z.old }
     ensures { z.new ≡ z_of set.numbers signature.now }

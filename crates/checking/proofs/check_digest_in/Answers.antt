@@ -9,9 +9,9 @@ pub returns-in_err-test_inputs : goal.returns-in_err-test_inputs
 unfolding digest_tests
 returns-in_err-test_inputs c = search (before_err, answered_err, c.in_err-test_inputs.ensures, c.from_residual.ensures.1, rules)
 
-pub check_hash-requires-clause-tested : goal.check_hash-requires-clause-tested
-check_hash-requires-clause-tested c = search (inputs_tested, c.in_ok-test_inputs.ensures, rules)
+pub check_hash-requires : goal.check_hash-requires
+check_hash-requires c = search (inputs_tested, c.in_ok-test_inputs.ensures, rules)
 
 pub returns : goal.returns
 unfolding digest_tests
-returns c = search (beyond_ok, inputs_numbered, c.in_ok-test_inputs.ensures, rules)
+returns c = beyond_ok c.in_ok-test_inputs.ensures (inputs_numbered _ _ _ _) (search rules)

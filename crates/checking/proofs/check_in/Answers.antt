@@ -13,9 +13,9 @@ returns-in_err-test_inputs c = search (before_err, answered_err, c.in_err-test_i
 pub message_digest-requires : goal.message_digest-requires
 message_digest-requires c = search (known_good, rules)
 
-pub check_hash-requires-clause-tested : goal.check_hash-requires-clause-tested
-check_hash-requires-clause-tested c = search (inputs_tested, c.in_ok-test_inputs.ensures, rules)
+pub check_hash-requires : goal.check_hash-requires
+check_hash-requires c = search (inputs_tested, c.in_ok-test_inputs.ensures, rules)
 
 pub returns : goal.returns
 unfolding check_tests digest_tests
-returns c = search (beyond_ok, inputs_numbered, digest_answered, c.in_ok-test_inputs.ensures, rules)
+returns c = beyond_ok c.in_ok-test_inputs.ensures (inputs_numbered _ _ _ _) (search (digest_answered, rules))

@@ -7,8 +7,8 @@ use Rattle.checking.proofs.work.check_hash_in.Goals as goal
 pub signature_bytes-from-requires : goal.signature_bytes-from-requires
 signature_bytes-from-requires c = search (known_good, rules)
 
-pub highs_of-highs-requires-clause-for_highs : goal.highs_of-highs-requires-clause-for_highs
-highs_of-highs-requires-clause-for_highs c = search (highs_asks, rules)
+pub highs_of-highs-requires : goal.highs_of-highs-requires
+highs_of-highs-requires c = search (highs_asks, rules)
 
 pub public_g-requires : goal.public_g-requires
 public_g-requires c = search (known_good, rules)

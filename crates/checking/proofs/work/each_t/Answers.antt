@@ -6,8 +6,8 @@ use Rattle.checking.proofs.work.each_t.Goals as goal
 pub loop-i-init : goal.loop-i-init
 loop-i-init c = search (turn_none, rules)
 
-pub add_t-next-requires-clause-for_t : goal.add_t-next-requires-clause-for_t
-add_t-next-requires-clause-for_t c = search (turn_asks, rules)
+pub add_t-next-requires : goal.add_t-next-requires
+add_t-next-requires c = search (turn_asks, rules)
 
 pub loop-i-preserved : goal.loop-i-preserved
 loop-i-preserved c = search (turn_more, rules)

@@ -5,7 +5,7 @@ use Rattle.checking.proofs.WorkSteps.{Turn}
 use Rattle.checking.proofs.work.each_t.Given as goal
 
 abbrev pub invariant-loop-i : goal.invariant-loop-i
-invariant-loop-i l = Turn l.set l.public l.zr l.positions l.signs l.t l.walk l.i
+invariant-loop-i l = Turn l.set.numbers l.public l.zr l.positions l.signs l.t l.walk l.i
 
 abbrev pub decreases-loop-i : goal.decreases-loop-i
 decreases-loop-i l = l.k - l.i

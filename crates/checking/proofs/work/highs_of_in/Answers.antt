@@ -3,5 +3,5 @@ use borrow.Author.Rules.{rules}
 use Rattle.checking.proofs.WorkSteps.{each_asks}
 use Rattle.checking.proofs.work.highs_of_in.Goals as goal
 
-pub each_t-requires-clause-for_each_t : goal.each_t-requires-clause-for_each_t
-each_t-requires-clause-for_each_t c = search (each_asks, c.draw_enc.ensures, rules)
+pub each_t-requires : goal.each_t-requires
+each_t-requires c = search (each_asks, c.draw_enc.ensures, rules)
