@@ -6,7 +6,7 @@ use Prim.Native.Nat.{ℕ, zero, suc, ◌+◌, ◌*◌, ◌^◌, ◌≤◌, ◌<�
 use native.Mathlib.Numerals.{add-one}
 use native.Mathlib.Omega.{arith}
 use lib.ListN.{length, get_or, take, drop, set, replicate, length-replicate, length-map, get_or-map, drop_of_length-le}
-use lib.Seq.{take_all}
+use lib.Seq.{set-get_or, take_all}
 use Rattle.std.specs.List.{sum, fold}
 use Rattle.std.proofs.lemmas.List.Sums.{sum_by-cons, fold_push}
 use lib.Dec.{lit<}
@@ -30,6 +30,12 @@ push_at m (suc i) (p ∷ ps) l = ap (λ (t : List ℕ). p ∷ t) (push_at m i ps
 pub pushed_more : (m i : ℕ) (ps : List ℕ) {v w : ℕ} → i < length ps → v ≡ max m (get_or ps i 0) → w ≡ min m (get_or ps i 0)
     → take (i + 1) (set ps i v) ++ push w (drop (i + 1) (set ps i v)) ≡ take i ps ++ push m (drop i ps)
 pushed_more m i ps {v} {w} l e f = rw (add-one i, e, f) (push_at m i ps l)
+
+-- and nothing moves where the larger is there already
+pub pushed_past : (m i : ℕ) (ps : List ℕ) → i < length ps → m ≤ get_or ps i 0 → take (i + 1) ps ++ push m (drop (i + 1) ps) ≡ take i ps ++ push m (drop i ps)
+pushed_past m i ps l h =
+    ap (λ (t : List ℕ). take (i + 1) t ++ push m (drop (i + 1) t)) (sym (set-get_or ps i 0))
+    ∙ pushed_more m i ps l (omega arith) (omega arith)
 
 -- past the last place nothing is left to push into
 pub pushed_all : (m i : ℕ) (ps : List ℕ) → length ps ≤ i → take i ps ++ push m (drop i ps) ≡ ps

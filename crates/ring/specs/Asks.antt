@@ -1,8 +1,7 @@
 -- What this crate's code asks of its arguments, and what it says of sums on the way, as named records. They are conditions on
 -- lengths and sizes; no caller has to believe them, each shows them.
 -- Assumes nothing: these are definitions.
-use Rattle.std.specs.Prelude.{List, ◌≡◌, ℕ, suc, ◌*◌, ◌-◌, ◌%◌, ◌^◌, ◌≤◌, ◌<◌, length, get_or, ℤ, pos, nat_abs}
-use Rattle.whole.specs.Residue.{Same}
+use Rattle.std.specs.Prelude.{List, ◌≡◌, ℕ, suc, ◌*◌, ◌-◌, ◌%◌, ◌^◌, ◌≤◌, ◌<◌, length, get_or, ℤ, nat_abs}
 use Rattle.whole.specs.Sum.{total}
 use Rattle.whole.specs.Below.{Below, Within}
 use Rattle.ring.specs.Sparse.{Signed}
@@ -74,33 +73,17 @@ pub record Row (q multiple : ℕ) (a b : List ℕ) (k : ℕ) : Type 0 where
   pub whole : Multiple q multiple
   pub inside : k < length a
 
--- ---- the product by a sparse polynomial, as the code sums it: modulo q
+-- ---- the product by a sparse polynomial
 
--- r is congruent to z, from 0 to q
-pub record Near (q : ℕ) (z : ℤ) (r : ℕ) : Type 0 where
-  pub within : r ≤ q
-  pub same : Same q (pos r) z
-
--- coefficient k of xᵖ · t
-pub record Turned (q : ℕ) (t : List ℕ) (p k : ℕ) : Type 0 where
-  -- q less an entry is no less than 0
-  pub below : Below q t
-  -- both places that are read are inside t
-  pub moved : p < length t
-  pub inside : k < length t
-
--- coefficient k of t · c
-pub record SparseRow (q : ℕ) (t ps : List ℕ) (ss : List ℤ) (k : ℕ) : Type 0 where
-  -- the divisor of the one division
-  pub some : 0 < q
-  pub below : Below q t
-  -- every position is inside t, and every sign is +1 or −1
-  pub terms : Signed (length t) ps ss
-  -- 2^16 numbers up to q fit the machine's word
+-- coefficient k of f · c
+pub record Turnable (n : ℕ) (ps : List ℕ) (ss : List ℤ) (k : ℕ) : Type 0 where
+  -- every position is inside f, and every sign is +1 or −1
+  pub terms : Signed n ps ss
+  -- 2^16 numbers below 2^32 sum to what fits the machine's word
   pub few : length ps < 2 ^ 16
-  pub inside : k < length t
+  pub inside : k < n
 
--- t · c, and the place for it
+-- t · c modulo q, and the place for it
 pub record SparseProduct (q : ℕ) (t ps : List ℕ) (ss : List ℤ) (out : List ℕ) : Type 0 where
   -- the divisor of the one division of a row
   pub some : 0 < q
@@ -111,16 +94,7 @@ pub record SparseProduct (q : ℕ) (t ps : List ℕ) (ss : List ℤ) (out : List
   -- a row's sum fits the machine's word
   pub few : length ps < 2 ^ 16
 
--- ---- and exactly, for signed bytes
-
--- coefficient k of s · c
-pub record ByteRow (s ps : List ℕ) (ss : List ℤ) (k : ℕ) : Type 0 where
-  pub terms : Signed (length s) ps ss
-  -- 2^16 signed bytes sum to less than 2^31
-  pub few : length ps < 2 ^ 16
-  pub inside : k < length s
-
--- s · c, and the place for it
+-- s · c of signed bytes, and the place for it
 pub record ByteProduct (s ps : List ℕ) (ss out : List ℤ) : Type 0 where
   -- one coefficient to write for each that s has
   pub long : length s ≡ length out
@@ -146,18 +120,11 @@ pub record Added (q v : ℕ) (x : ℤ) : Type 0 where
   -- one q brings the sum back
   pub near : nat_abs x ≤ q
 
--- a signed byte added to the residue v modulo q
-pub record AddedByte (q v : ℕ) : Type 0 where
-  pub small : q < 2 ^ 31
-  pub residue : v < q
-  -- a signed byte is from −q to q
-  pub above : 128 ≤ q
-
 -- ---- what the sums ask of their lists
 
 -- signed bytes and the place for their residues modulo q: for `residues_of_bytes`
 pub record Bytes (q : ℕ) (s out : List ℕ) : Type 0 where
-  -- both bounds for each `AddedByte`
+  -- for each `Added`: a signed byte is from −q to q
   pub small : q < 2 ^ 31
   pub above : 128 ≤ q
   pub long : length s ≡ length out

@@ -1,14 +1,9 @@
 // The sum of the h largest absolute values of a list of signed bytes, in h places that the caller lends.
-ghost use Rattle.std.specs.Prelude.{◌≡◌, length, nat_abs};
-ghost use Rattle.whole.specs.Twos.{signed};
+ghost use Rattle.std.specs.Prelude.{◌≡◌, length};
 ghost use Rattle.ring.specs.Largest.{push, places, largest, sizes, sum_passes, Few};
 
-// |b| for a signed byte b.
-fn size_of(b: u8) -> u32
-    ensures { result ≡ nat_abs (signed 8 b) }
-{
-    u32::from(b.cast_signed().unsigned_abs())
-}
+use crate::signed_byte;
+use std::mem;
 
 // Pushes x into the slots: at each one the larger stays and the smaller moves on.
 fn put(x: u32, slots: &mut [u32])
@@ -16,9 +11,9 @@ fn put(x: u32, slots: &mut [u32])
 {
     let mut moving = x;
     for slot in slots.iter_mut() {
-        let held = *slot;
-        *slot = moving.max(held);
-        moving = moving.min(held);
+        if *slot < moving {
+            mem::swap(slot, &mut moving);
+        }
     }
 }
 
@@ -28,7 +23,7 @@ fn pick(e: &[u8], slots: &mut [u32])
 {
     slots.fill(0);
     for b in e.iter().rev() {
-        put(size_of(*b), slots);
+        put(signed_byte(*b).unsigned_abs(), slots);
     }
 }
 

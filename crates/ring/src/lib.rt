@@ -6,12 +6,13 @@ pub mod product;
 pub mod sparse;
 pub mod sums;
 
-ghost use Rattle.std.specs.Prelude.{◌≡◌};
+ghost use Rattle.std.specs.Prelude.{◌≡◌, ◌≤◌, nat_abs};
 ghost use Rattle.whole.specs.Twos.{signed};
 
 // The number that the signed byte b stands for.
 fn signed_byte(b: u8) -> i32
-    ensures { result ≡ signed 8 b }
+    ensures value { result ≡ signed 8 b }
+    ensures small { nat_abs result ≤ 128 }
 {
     i32::from(b.cast_signed())
 }

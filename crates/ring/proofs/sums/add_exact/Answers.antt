@@ -1,19 +1,10 @@
 -- The goals of `ring::sums::add_exact` that want an answer by hand. Assumes nothing.
-use lib.IntN.{pos}
-use mir.Facts.{to_z-of_z}
-use Rattle.whole.specs.Fill.{wrote_none, wrote_more, wrote_ahead}
-use Rattle.ring.proofs.Loops.{summands_are, sum_fits}
+use Rattle.std.proofs.Common.{pos, rules}
+use Rattle.ring.proofs.Loops.{at_each, updated_is}
 use Rattle.ring.proofs.sums.add_exact.Goals as goal
 
-pub loop-i-init : goal.loop-i-init
-loop-i-init c = wrote_none
+pub update-requires : goal.update-requires
+update-requires c = at_each _ (pos 0) (pos 0) _ _ c.requires.long (λ i l. search rules)
 
-pub overflow_add-y : goal.overflow_add-y
-overflow_add-y c =
-    rw (summands_are c.requires c.loop-i.invariant c.loop-i-test.true) (sum_fits c.requires c.loop-i.invariant c.loop-i-test.true)
-
-pub loop-i-preserved : goal.loop-i-preserved
-loop-i-preserved c =
-    let inv = c.loop-i.invariant in
-    wrote_more inv c.loop-i-test.true
-    (rw (summands_are c.requires inv c.loop-i-test.true, ← wrote_ahead (pos 0) inv) (to_z-of_z (sum_fits c.requires inv c.loop-i-test.true)))
+pub returns : goal.returns
+returns c = updated_is _ _ (pos 0) (pos 0) _ _ _ c.update.ensures c.requires.long (λ i z l h. search rules)

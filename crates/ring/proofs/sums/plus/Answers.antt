@@ -1,5 +1,5 @@
 -- The goals of `ring::sums::plus` that want an answer by hand. Assumes nothing.
-use borrow.Author.Rules.{rules}
+use Rattle.std.proofs.Common.{rules}
 use Rattle.ring.proofs.Numbers.{plus_low, plus_high}
 use Rattle.ring.proofs.sums.plus.Goals as goal
 

@@ -1,14 +1,10 @@
 -- The goals of `ring::sums::residues_of` that want an answer by hand. Assumes nothing.
-use mathlib.Core.Path.{◌∙◌}
-use native.Mathlib.Omega.{arith}
-use lib.IntN.{+ℤ_idl}
-use Rattle.whole.specs.Fill.{wrote_none, wrote_more}
-use Rattle.ring.proofs.Loops.{small_at}
+use Rattle.std.proofs.Common.{pos, rules}
+use Rattle.ring.proofs.Loops.{at_each, updated_is}
 use Rattle.ring.proofs.sums.residues_of.Goals as goal
 
-pub loop-i-init : goal.loop-i-init
-loop-i-init c = wrote_none
+pub update-requires : goal.update-requires
+update-requires c = at_each _ 0 (pos 0) _ _ c.requires.long (λ i l. search rules)
 
-pub loop-i-preserved : goal.loop-i-preserved
-loop-i-preserved c =
-    wrote_more c.loop-i.invariant (omega arith) (c.plus.ensures ∙ rw (small_at c.requires c.loop-i.invariant (omega arith), +ℤ_idl))
+pub returns : goal.returns
+returns c = updated_is _ _ 0 (pos 0) _ _ _ c.update.ensures c.requires.long (λ i z l h. search rules)
