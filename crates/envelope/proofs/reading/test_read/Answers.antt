@@ -19,8 +19,8 @@ returns-in_err-test_head c = search (before_err, answered_err, c.in_err-test_hea
 pub signature_in-signature-requires : goal.signature_in-signature-requires
 signature_in-signature-requires c = search (known_good, rules)
 
-pub test_signed-requires-clause-long_signature : goal.test_signed-requires-clause-long_signature
-test_signed-requires-clause-long_signature c = search (head_signed, c.in_ok-test_head.ensures, rules)
+pub test_signed-requires : goal.test_signed-requires
+test_signed-requires c = search (head_signed, c.in_ok-test_head.ensures, rules)
 
 pub returns : goal.returns
 unfolding read_tests
