@@ -10,7 +10,6 @@ use Rattle.whole.specs.Every.{each_below}
 use Rattle.whole.specs.EveryLaws.{not_first, both_first, each_below_ext}
 use Rattle.ring.specs.Sparse.{sparse}
 use Rattle.sets.specs.declared.Numbers.{Numbers}
-use Rattle.sets.specs.SetI.{set_i}
 use Rattle.sampling.specs.Positions.{polynomial_of, AreDrawn}
 use Rattle.sampling.specs.Streams.{a_of, y_of, enc_of, challenge, highs_of}
 use Rattle.sampling.specs.StreamsLaws.{all_a_below}
@@ -29,7 +28,7 @@ use Rattle.attempts.specs.Attempt.{Outcome, passes, fails, overflows, v_of, z_fr
 use Rattle.attempts.specs.Steps.{v_row, z_with, w_one, w_with}
 use Rattle.attempts.specs.Promises.{Committed, Challenged, Responded, Concluded, Tries, tried_of, tried_signature}
 use Rattle.attempts.specs.Asks.{Whole, MakesZ, TestsW, Commits, Responds, RespondsKey, Concludes, Places, Attempts}
-use Rattle.records.specs.SecretLaws.{s_lent, e_lent, s_lent_long, e_lent_long}
+use Rattle.records.specs.SecretLaws.{s_lent, e_lent}
 use Rattle.attempts.proofs.ProductSteps.{y_of_within, v_all_below, v_all_length, v_parts}
 
 -- ---- c'
@@ -91,22 +90,6 @@ module _ {set : Numbers} {s e v ps₀ : List ℕ} {y ss₀ z₀ : List ℤ} (r :
 
 -- with the s and e_1..e_k of the secret record
 module _ {set : Numbers} {secret v : List ℕ} {y z₀ : List ℤ} (r : RespondsKey set secret y v z₀) {at end : ℕ} (a : at ≡ 2 + set.n) (b : end ≡ 2 + set.n + set.k * set.n) where
-  pub key_responds : {ps : List ℕ} {ss : List ℤ} → length ps ≡ set.h → length ss ≡ set.h
-      → Responds set (take (at - 2) (drop 2 secret)) (take (end - at) (drop at secret)) y v ps ss z₀
-  key_responds p s =
-      record {
-        good = r.whole.good;
-        s_long = s_lent_long set secret a b r.whole.long;
-        e_long = e_lent_long set secret a b r.whole.long;
-        y_long = r.y_long;
-        y_within = r.y_within;
-        v_long = r.v_long;
-        v_below = r.v_below;
-        ps_long = p;
-        ss_long = s;
-        z_long = r.z_long;
-      }
-
   pub key_responded : {c' : List ℕ} {z : List ℤ} {passed : Bool}
       → Responded set (take (at - 2) (drop 2 secret)) (take (end - at) (drop at secret)) c' y v z passed
       → Responded set (s_of set secret) (all_e set secret) c' y v z passed
@@ -202,9 +185,3 @@ module _ {set : Numbers} {secret a signature : List ℕ} (t : Attempts set secre
 
       pub attempt_concluded : Tries set (attempt set (key_of set secret) digest rand counter) signature new r
       attempt_concluded = rw outcome_is (d.is _ m.held)
-
--- ---- set I
-
-pub places_i : {set : Numbers} → set ≡ set_i → {y z : List ℤ} {yr v : List ℕ}
-    → length y ≡ 1024 → length yr ≡ 1024 → length v ≡ 4096 → length z ≡ 1024 → Places set y yr v z
-places_i e y yr v z = rw e (record { y_long = y; yr_long = yr; v_long = v; z_long = z })

@@ -1,8 +1,7 @@
 -- v_1..v_k are made one after another, and then their high parts: the steps up to c'. Assumes nothing.
-use mathlib.Core.Path.{◌≡◌, sym, ap, subst, ◌∙◌}
-use mathlib.Core.List.{List, [], ◌++◌}
-use Prim.Native.Nat.{ℕ, ◌+◌, ◌*◌, ◌-◌, ◌≤◌, ◌<◌, zero-le}
-use native.Mathlib.Nat.{le_antisymm}
+use mathlib.Core.Path.{◌≡◌, sym, ap, ◌∙◌}
+use mathlib.Core.List.{List, ◌++◌}
+use Prim.Native.Nat.{ℕ, ◌+◌, ◌*◌, ◌-◌, ◌≤◌, ◌<◌}
 use native.Mathlib.Numerals.{add-one}
 use lib.IntN.{ℤ}
 use lib.ListN.{length, take, drop}
@@ -15,7 +14,7 @@ use Rattle.whole.specs.Rows.{row_lent}
 use Rattle.ring.specs.Product.{mul}
 use Rattle.ring.specs.Lists.{naturals, integers, residues}
 use Rattle.ring.specs.ListsLaws.{length_residues, residues_below, mul_residues}
-use Rattle.ring.specs.Asks.{Factors, Small}
+use Rattle.ring.specs.Asks.{Small}
 use Rattle.sets.specs.declared.Numbers.{Numbers}
 use Rattle.sets.specs.Good.{Good}
 use Rattle.sets.specs.Known.{Known, known_good}
@@ -26,13 +25,14 @@ use Rattle.sets.specs.GoodLaws.{q_some}
 use Rattle.sampling.specs.Streams.{y_of, highs_of, high_parts}
 use Rattle.sampling.specs.StreamsLaws.{y_of_size}
 use Rattle.sampling.proofs.DrawnLengths.{y_of_length}
-use Rattle.sampling.specs.Residues.{Residues, residues_factors}
+use Rattle.sampling.specs.Residues.{Residues}
+use Rattle.records.specs.ChunksLaws.{Comes}
 use Rattle.records.specs.Layout.{polynomial}
 use Rattle.records.specs.PublicLaws.{polynomial_length, polynomial_below}
 use Rattle.attempts.specs.Steps.{product_of, v_row}
 use Rattle.attempts.specs.Asks.{Multiplies, Absorbs, Commits}
 use Rattle.attempts.specs.Promises.{Committed}
-use Rattle.whole.specs.RowFill.{Filling, filling_none, filling_length, filling_fits, filling_lent, filling_more, filling_all}
+use Rattle.whole.specs.RowFill.{Filling, filling_none, filling_lent, filling_more, filling_all}
 
 product_length : (set : Numbers) (a yr : List ℕ) (i : ℕ) → length (product_of set a yr i) ≡ set.n
 unfolding product_of
@@ -50,21 +50,6 @@ module _ {set : Numbers} {a yr old : List ℕ} (m : Multiplies set a yr old) whe
   multiplying_none = filling_none m.v_long each
 
   module _ {v : List ℕ} {i : ℕ} (h : Multiplying set a yr old v i) where
-    pub multiplying_length : length v ≡ length old
-    multiplying_length = filling_length m.v_long each h
-
-    pub multiplying_fits : i < set.k → set.n * i + set.n ≤ length v
-    multiplying_fits l = filling_fits m.v_long each h l
-
-    pub multiplying_factors : i < set.k
-        → Factors set.q (take (set.n * i + set.n - set.n * i) (drop (set.n * i) a)) yr (take (set.n * i + set.n - set.n * i) (drop (set.n * i) v))
-    multiplying_factors l =
-        rw (row_lent set.n i a)
-        (residues_factors m.good
-        (record { long = polynomial_length set.n set.k i a m.a_long l; below = polynomial_below set.q set.n i a m.a_below })
-        (record { long = m.y_long; below = m.y_below })
-        (filling_lent m.v_long each h l))
-
     pub multiplying_more : i < set.k → (new : List ℕ)
         → new ≡ residues set.q (length (take (set.n * i + set.n - set.n * i) (drop (set.n * i) v))) (mul (length (take (set.n * i + set.n - set.n * i) (drop (set.n * i) v))) (naturals (take (set.n * i + set.n - set.n * i) (drop (set.n * i) a))) (naturals yr))
         → Multiplying set a yr old (take (set.n * i) v ++ (new ++ drop (set.n * i + set.n - set.n * i) (drop (set.n * i) v))) (i + 1)
@@ -160,29 +145,26 @@ module _ {set : Numbers} (known : Known set) {first : List ℤ} {a yr v : List �
 
 -- ---- the high parts of v_1..v_k, absorbed one polynomial after another
 
--- those of v_1..v_i
-pub record Absorbing (set : Numbers) (v : List ℕ) (highs : Highs) (i : ℕ) : Type 0 where
-  pub near : i ≤ set.k
-  pub held : Held set (joined i (λ j. high_parts set (polynomial set.n j v))) highs
+-- the high parts of v_(i + 1)
+abbrev pub parts_of : Numbers → List ℕ → ℕ → List ℤ
+parts_of set v i = high_parts set (polynomial set.n i v)
 
-pub absorbing_none : {set : Numbers} {v : List ℕ} {highs : Highs} → Held set [] highs → Absorbing set v highs 0
-unfolding joined
-absorbing_none h = record { near = zero-le; held = h }
-
-module _ {set : Numbers} {v : List ℕ} (a : Absorbs set v) {highs : Highs} {i : ℕ} (h : Absorbing set v highs i) where
-  pub absorbing_residues : i < set.k → Residues set (take (set.n * i + set.n - set.n * i) (drop (set.n * i) v))
-  absorbing_residues l =
-      rw (row_lent set.n i v)
+module _ {set : Numbers} {v : List ℕ} {m next i : ℕ} {x : List ℕ} (c : Comes set v m next i x) where
+  pub absorbing_residues : Absorbs set v → Residues set x
+  absorbing_residues a =
+      rw c.is
       (record {
-        long = polynomial_length set.n set.k i v a.v_long l;
+        long = polynomial_length set.n set.k i v a.v_long c.inside;
         below = polynomial_below set.q set.n i v a.v_below;
       })
 
-  pub absorbing_more : {next : Highs} → i < set.k → Adds set highs (take (set.n * i + set.n - set.n * i) (drop (set.n * i) v)) next → Absorbing set v next (i + 1)
+  pub absorbing_more : {highs after : Highs} → Held set (joined m (parts_of set v)) highs → Adds set highs x after
+      → Held set (joined next (parts_of set v)) after
   unfolding joined
-  absorbing_more l m = rw add-one (record { near = l; held = held_more h.held (rw (row_lent set.n i v) at m) })
+  absorbing_more h g = rw (c.counted, add-one) (held_more (rw c.at h) (rw c.is at g))
 
-  pub absorbing_all : set.k ≤ i → Held set (highs_of set (λ j. polynomial set.n j v)) highs
-  unfolding highs_of
-  absorbing_all l =
-      subst (λ (m : ℕ). Held set (joined m (λ j. high_parts set (polynomial set.n j v))) highs) (le_antisymm h.near l) h.held
+-- all of them
+pub absorbing_all : (set : Numbers) (v : List ℕ) {highs : Highs} {m : ℕ} → m ≡ set.k → Held set (joined m (parts_of set v)) highs
+    → Held set (highs_of set (λ i. polynomial set.n i v)) highs
+unfolding highs_of
+absorbing_all set v e h = rw e at h

@@ -7,15 +7,14 @@ use lib.ListN.{length, take, drop}
 use Rattle.whole.specs.TableLaws.{joined_parts}
 use Rattle.sets.specs.declared.Numbers.{Numbers}
 use Rattle.sampling.specs.declared.drawn.DrawA.{DrawA}
-use Rattle.sampling.specs.Asks.{NextA}
 use Rattle.sampling.specs.Promises.{StartedA, AfterA}
-use Rattle.sampling.specs.DrawALaws.{AtA, at_first, at_asks, at_written, at_next}
+use Rattle.sampling.specs.DrawALaws.{AtA, at_first, at_written, at_next}
 use Rattle.sampling.specs.Streams.{all_a, a_of}
 use Rattle.sampling.proofs.DrawnLengths.{all_a_length, a_of_length}
 use Rattle.sets.specs.Limits.{seed_bytes}
 use Rattle.records.specs.Secret.{secret_seed_a}
 use Rattle.attempts.specs.Asks.{DrawsRow}
-use Rattle.whole.specs.RowFill.{Filling, filling_none, filling_length, filling_fits, filling_lent, filling_more, filling_all}
+use Rattle.whole.specs.RowFill.{Filling, filling_none, filling_more, filling_all}
 
 -- a_1..a_i are drawn
 pub record Drawing (set : Numbers) (seed_a old a : List ℕ) (stream : DrawA) (i : ℕ) : Type 0 where
@@ -30,20 +29,11 @@ module _ {set : Numbers} (seed_a : List ℕ) {old : List ℕ} (m : DrawsRow set 
   drawing_none s = record { filling = filling_none m.a_long each; at = at_first s }
 
   module _ {a : List ℕ} {stream : DrawA} {i : ℕ} (h : Drawing set seed_a old a stream i) where
-    pub drawing_length : length a ≡ length old
-    drawing_length = filling_length m.a_long each h.filling
-
     pub drawing_all : set.k ≤ i → a ≡ all_a set seed_a
     unfolding a_of
     drawing_all l = filling_all m.a_long each h.filling l ∙ joined_parts set.k set.n (all_a set seed_a) (all_a_length set m.good seed_a)
 
     module _ (l : i < set.k) where
-      pub drawing_fits : set.n * i + set.n ≤ length a
-      drawing_fits = filling_fits m.a_long each h.filling l
-
-      pub drawing_next : NextA set stream (length (take (set.n * i + set.n - set.n * i) (drop (set.n * i) a)))
-      drawing_next = at_asks h.at m.good l (filling_lent m.a_long each h.filling l)
-
       pub drawing_more : (new : List ℕ) {after : DrawA} → AfterA set stream new after
           → Drawing set seed_a old (take (set.n * i) a ++ (new ++ drop (set.n * i + set.n - set.n * i) (drop (set.n * i) a))) after (i + 1)
       drawing_more new d =

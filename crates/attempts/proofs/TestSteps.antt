@@ -5,7 +5,6 @@ use mathlib.Core.Logic.{⊎_elim}
 use mathlib.Core.List.{List, [], ◌∷◌, ◌++◌}
 use Prim.Native.Nat.{ℕ, suc, ◌+◌, ◌*◌, ◌-◌, ◌^◌, ◌≤◌, ◌<◌, zero-le, suc-le-suc}
 use native.Mathlib.Nat.{add-sub_cancel_left}
-use native.Mathlib.Numerals.{add-one}
 use native.Mathlib.Omega.{arith}
 use lib.IntN.{ℤ, pos, nat_abs, ◌+ℤ◌, ◌-ℤ◌, ◌*ℤ◌, +ℤ_comm}
 use lib.ListN.{length, get_or, take, drop}
@@ -18,7 +17,7 @@ use Rattle.whole.specs.Below.{Below}
 use Rattle.whole.specs.BelowLaws.{within_more, within_table}
 use Rattle.whole.specs.TwosLaws.{signed_size}
 use Rattle.whole.specs.Every.{every, each_below}
-use Rattle.whole.specs.EveryLaws.{not_first, each_below_none, each_below_more, each_below_fails, each_below_end}
+use Rattle.whole.specs.EveryLaws.{not_first, each_below_none, each_below_more, each_below_fails}
 use Rattle.whole.specs.Rows.{row_fits, row_lent, row_next, back_length, back_rest}
 use Rattle.rounding.specs.Tests.{low_passes, size_passes}
 use Rattle.rounding.specs.Asks.{LowTests, SizeTests}
@@ -28,12 +27,11 @@ use Rattle.ring.specs.Lists.{naturals, integers, signed_bytes, residues}
 use Rattle.ring.specs.ListsLaws.{residues_below}
 use Rattle.ring.specs.Sparse.{sparse, turns, Sign}
 use Rattle.ring.specs.SparseLaws.{mul_sparse, sign_size}
-use Rattle.ring.specs.Asks.{ByteProduct, WithSmall, Summands}
+use Rattle.ring.specs.Asks.{WithSmall, Summands}
 use Rattle.sets.specs.declared.Numbers.{Numbers}
-use Rattle.sets.specs.Good.{Good}
 use Rattle.sets.specs.GoodLaws.{q_some, y_small}
 use Rattle.records.specs.Layout.{polynomial}
-use Rattle.records.specs.PublicLaws.{polynomial_length, polynomial_below}
+use Rattle.records.specs.PublicLaws.{polynomial_length}
 use Rattle.attempts.specs.Attempt.{w_passes}
 use Rattle.attempts.specs.Steps.{z_with, w_one, w_with}
 use Rattle.sampling.specs.Asks.{Terms}
@@ -69,21 +67,9 @@ module _ {set : Numbers} {ps : List ℕ} {ss : List ℤ} (t : Terms set ps ss) (
       rw (mul_sparse set.n (signed_bytes e) ps ss k l t.signed.inside, ← t.few)
       (turns_size set.n (signed_bytes e) ps ss k (λ i. signed_size (get_or e i 0) (bytes i)) t.signed.signs)
 
-  -- what the product asks, and what it is
-  pub byte_product : {out : List ℤ} → Good set → length e ≡ set.n → length out ≡ set.n → ByteProduct e ps ss out
-  byte_product good long room =
-      record {
-        long = long ∙ sym room;
-        terms = rw long t.signed;
-        few = omega (arith, good.h_drawn, t.few);
-      }
-
 -- ---- z
 
 module _ {set : Numbers} {s : List ℕ} {y : List ℤ} {ps : List ℕ} {ss z : List ℤ} (m : MakesZ set s y ps ss z) (bytes : (i : ℕ) → get_or s i 0 < 2 ^ 8) where
-  pub z_product : ByteProduct s ps ss z
-  z_product = byte_product m.terms s bytes m.good m.s_long m.z_long
-
   module _ {sc : List ℤ} (e : sc ≡ table (length z) (mul (length z) (signed_bytes s) (sparse ps ss))) where
     sc_is : sc ≡ table set.n (mul set.n (signed_bytes s) (sparse ps ss))
     sc_is = e ∙ rw m.z_long
@@ -116,9 +102,6 @@ module _ {set : Numbers} {s : List ℕ} {y : List ℤ} {ps : List ℕ} {ss z : L
 -- ---- one w
 
 module _ {set : Numbers} {e v ps : List ℕ} {ss ec : List ℤ} (t : TestsOneW set e v ps ss ec) (bytes : (i : ℕ) → get_or e i 0 < 2 ^ 8) where
-  pub w_product : ByteProduct e ps ss ec
-  w_product = byte_product t.terms e bytes t.good t.e_long t.ec_long
-
   module _ {new : List ℤ} (f : new ≡ table (length ec) (mul (length ec) (signed_bytes e) (sparse ps ss))) where
     new_is : new ≡ table set.n (mul set.n (signed_bytes e) (sparse ps ss))
     new_is = f ∙ rw t.ec_long
@@ -176,15 +159,14 @@ module _ {set : Numbers} {e v ps : List ℕ} {ss ec : List ℤ} (t : TestsOneW s
         unfolding w_passes
         w_both l k = rw (← w_is) (k ∙ sym (rw (sym h ∙ l)))
 
-        pub w_fails : low ≡ false → false ≡ w_passes set (w_one set e v (sparse ps ss))
+        pub w_fails : low ≡ false → low ≡ w_passes set (w_one set e v (sparse ps ss))
         unfolding w_passes
-        w_fails l = rw (← w_is) (sym (not_first (every (λ x. size_passes set.q set.e (pos x)) w) (sym h ∙ l)))
+        w_fails l = rw (← w_is) (l ∙ sym (not_first (every (λ x. size_passes set.q set.e (pos x)) w) (sym h ∙ l)))
 
 -- ---- w_1..w_k
 
 -- w_1..w_i pass, and v_(i + 1)..v_k are as they were
 pub record Testing (set : Numbers) (e old ps : List ℕ) (ss : List ℤ) (v : List ℕ) (ec : List ℤ) (i : ℕ) : Type 0 where
-  pub near : i ≤ set.k
   pub long : length v ≡ length old
   pub rest : drop (set.n * i) v ≡ drop (set.n * i) old
   pub room : length ec ≡ set.n
@@ -194,7 +176,6 @@ module _ {set : Numbers} {e old ps : List ℕ} {ss before : List ℤ} (t : Tests
   pub testing_none : Testing set e old ps ss old before 0
   testing_none =
       record {
-        near = zero-le;
         long = refl;
         rest = refl;
         room = t.ec_long;
@@ -207,19 +188,6 @@ module _ {set : Numbers} {e old ps : List ℕ} {ss before : List ℤ} (t : Tests
 
     rest_kept : drop (set.n * i + set.n) v ≡ drop (set.n * i + set.n) old
     rest_kept = sym (drop-drop set.n (set.n * i) v) ∙ ap (drop set.n) h.rest ∙ drop-drop set.n (set.n * i) old
-
-    pub testing_asks : i < set.k
-        → TestsOneW set (take (set.n * i + set.n - set.n * i) (drop (set.n * i) e)) (take (set.n * i + set.n - set.n * i) (drop (set.n * i) v)) ps ss ec
-    testing_asks l =
-        rw (row_lent set.n i e, v_lent)
-        (record {
-          good = t.good;
-          e_long = polynomial_length set.n set.k i e t.e_long l;
-          v_long = polynomial_length set.n set.k i old t.v_long l;
-          v_below = polynomial_below set.q set.n i old t.v_below;
-          terms = t.terms;
-          ec_long = h.room;
-        })
 
     same_test : {r : Bool}
         → r ≡ w_passes set (w_one set (take (set.n * i + set.n - set.n * i) (drop (set.n * i) e)) (take (set.n * i + set.n - set.n * i) (drop (set.n * i) v)) (sparse ps ss))
@@ -237,7 +205,6 @@ module _ {set : Numbers} {e old ps : List ℕ} {ss before : List ℤ} (t : Tests
     testing_more new after l long room f g =
         rw (add-sub_cancel_left (set.n * i) set.n)
         (record {
-          near = rw add-one l;
           long = back_length (set.n * i) set.n v new (testing_fits l) new_long ∙ h.long;
           rest = rw (row_next set.n i) (back_rest (set.n * i) set.n v new (testing_fits l) new_long ∙ rest_kept);
           room = room ∙ h.room;
@@ -247,19 +214,8 @@ module _ {set : Numbers} {e old ps : List ℕ} {ss before : List ℤ} (t : Tests
         new_long : length new ≡ set.n
         new_long = long ∙ ap length v_lent ∙ polynomial_length set.n set.k i old t.v_long l
 
-    pub testing_back : (new : List ℕ) → i < set.k
-        → length new ≡ length (take (set.n * i + set.n - set.n * i) (drop (set.n * i) v))
-        → length (take (set.n * i) v ++ (new ++ drop (set.n * i + set.n - set.n * i) (drop (set.n * i) v))) ≡ length old
-    testing_back new l long = rw (add-sub_cancel_left (set.n * i) set.n) (back_length (set.n * i) set.n v new (testing_fits l) new_long ∙ h.long)
-      where
-        new_long : length new ≡ set.n
-        new_long = long ∙ ap length v_lent ∙ polynomial_length set.n set.k i old t.v_long l
-
     pub testing_fails : {r : Bool} → i < set.k
         → r ≡ w_passes set (w_one set (take (set.n * i + set.n - set.n * i) (drop (set.n * i) e)) (take (set.n * i + set.n - set.n * i) (drop (set.n * i) v)) (sparse ps ss))
         → r ≡ false → false ≡ each_below set.k (λ j. w_passes set (w_with set e old (sparse ps ss) j))
     testing_fails l f g =
         sym (each_below_fails set.k i (λ j. w_passes set (w_with set e old (sparse ps ss) j)) l (sym (same_test f) ∙ g))
-
-    pub testing_all : set.k ≤ i → true ≡ each_below set.k (λ j. w_passes set (w_with set e old (sparse ps ss) j))
-    testing_all l = sym (each_below_end _ h.near l h.passed)

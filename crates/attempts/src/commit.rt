@@ -17,14 +17,12 @@ fn products(set: Numbers, a: &[u32], yr: &[u32], v: &mut [u32])
     requires { Multiplies set a.now yr.now v.old }
     ensures { v.new ≡ joined set.k (product_of set a.now yr.now) }
 {
+    // By index: the contract of `chunks_exact_mut` does not say what v holds afterwards.
     let n = set.n;
-    let k = set.k;
-    let mut i = 0;
-    while i < k {
+    for i in 0..set.k {
         let start = n * i;
         let end = start + n;
         ring::product::multiply(&a[start..end], yr, set.q, &mut v[start..end]);
-        i += 1;
     }
 }
 
@@ -34,15 +32,9 @@ fn absorb_highs(set: Numbers, v: &[u32]) -> Highs
     requires absorbs { Absorbs set v.now }
     ensures { Held set (highs_of set (λ i. polynomial set.n i v.now)) result }
 {
-    let n = set.n;
-    let k = set.k;
     let mut highs = highs::no_highs(set);
-    let mut i = 0;
-    while i < k {
-        let start = n * i;
-        let next = highs::add_highs(set, highs, &v[start..start + n]);
-        highs = next;
-        i += 1;
+    for v_i in v.chunks_exact(set.n) {
+        highs = highs::add_highs(set, highs, v_i);
     }
     highs
 }

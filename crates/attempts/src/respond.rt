@@ -24,11 +24,8 @@ fn w_test(
 {
     ring::sparse::times_bytes(e, positions, signs, ec);
     ring::sums::subtract_small(v, ec, set.q);
-    if rounding::polynomial::all_low(v, set.q, set.d, set.e) {
-        rounding::polynomial::all_sized(v, set.q, set.e)
-    } else {
-        false
-    }
+    rounding::polynomial::all_low(v, set.q, set.d, set.e)
+        && rounding::polynomial::all_sized(v, set.q, set.e)
 }
 
 // Whether every w_i = v_i − e_i c passes its two tests. w_i is left in the place of v_i.
@@ -43,10 +40,9 @@ fn w_tests(
     requires { TestsW set e.now v.old positions.now signs.now ec.old }
     ensures { result ≡ each_below set.k (λ i. w_passes set (w_with set e.now v.old (sparse positions.now signs.now) i)) }
 {
+    // By index, as v is written.
     let n = set.n;
-    let k = set.k;
-    let mut i = 0;
-    while i < k {
+    for i in 0..set.k {
         let start = n * i;
         let end = start + n;
         if !w_test(
@@ -59,7 +55,6 @@ fn w_tests(
         ) {
             return false;
         }
-        i += 1;
     }
     true
 }

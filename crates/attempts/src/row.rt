@@ -11,16 +11,11 @@ fn draw_row(set: Numbers, seed_a: &[u8], a: &mut [u32])
     requires { DrawsRow set a.old }
     ensures { a.new ≡ all_a set seed_a.now }
 {
+    // By index: the contract of `chunks_exact_mut` does not say what a holds afterwards.
     let n = set.n;
-    let k = set.k;
     let mut stream = sampling::drawn::start_a(set, seed_a);
-    let mut i = 0;
-    while i < k {
-        let start = n * i;
-        let end = start + n;
-        let after = sampling::drawn::next_a(set, stream, &mut a[start..end]);
-        stream = after;
-        i += 1;
+    for i in 0..set.k {
+        stream = sampling::drawn::next_a(set, stream, &mut a[n * i..n * i + n]);
     }
 }
 

@@ -3,7 +3,7 @@
 use mathlib.Core.Path.{◌≡◌, refl, sym, ap, ap₂, ◌∙◌}
 use mathlib.Core.List.{List, ◌++◌, append-nil, append_assoc}
 use Prim.Native.Nat.{ℕ, ◌+◌, ◌*◌, ◌≤◌}
-use native.Mathlib.Nat.{le_antisymm, mul_comm}
+use native.Mathlib.Nat.{mul_comm}
 use native.Mathlib.Numerals.{add-one}
 use native.Mathlib.Omega.{arith}
 use lib.ListN.{length, take, drop, length-append}
@@ -23,9 +23,7 @@ use Rattle.sampling.specs.DrawALaws.{AtA, at_first, at_asks, at_written, at_next
 use Rattle.sampling.specs.Promises.{StartedA, AfterA}
 use Rattle.sampling.specs.Residues.{after_residues}
 use Rattle.records.specs.Asks.{PacksT}
-use Rattle.records.specs.ChunksLaws.{Rows, Ahead, Comes, ahead_begins}
-use Rattle.std.specs.Iterator.Adapters.{enumerate_source, enumerate_count}
-use Rattle.std.specs.Slice.Iter.{chunks_exact_rest, chunks_exact_size}
+use Rattle.records.specs.ChunksLaws.{Comes}
 use Rattle.records.specs.Layout.{t_bytes}
 use Rattle.records.specs.Public.{packed_t}
 use Rattle.records.specs.PublicLaws.{packed_t_length_lem, polynomial_length}
@@ -101,32 +99,30 @@ module _ (set : Numbers) (s e seed_a : List ℕ) where
       joined_ext set.k _ _
       (λ i l. ap (packed set.t_bits) (sym (joined_part set.k set.n i (key_t set s e seed_a) (λ j r. key_t_length set s e seed_a j) l)))
 
--- t_1..t_i are written, and e_(i + 1) comes next
-pub record Turn (set : Numbers) (s e seed_a old public : List ℕ) (d : DrawA) (it : Rows) : Type 0 where
-  pub within : enumerate_count it ≤ set.k
-  pub ahead : Ahead set.n e it
-  pub at : AtA set seed_a (enumerate_count it) d
-  pub long : length public ≡ length old
-  pub done : Written (take 2 old ++ upto set s e seed_a (enumerate_count it)) old public
+-- t_1..t_m are written
+pub record Turn (set : Numbers) (s e seed_a old public : List ℕ) (d : DrawA) (m : ℕ) : Type 0 where
+  pub within : m ≤ set.k
+  pub at : AtA set seed_a m d
+  pub done : Written (take 2 old ++ upto set s e seed_a m) old public
 
 module _ {set : Numbers} {s e seed_a old : List ℕ} (asked : ForPut set s e old) where
-  pub turn_none : {d : DrawA} {it : Rows} → chunks_exact_size (enumerate_source it) ≡ set.n → chunks_exact_rest (enumerate_source it) ≡ e
-      → enumerate_count it ≡ 0 → StartedA set seed_a d → Turn set s e seed_a old old d it
+  pub turn_none : {d : DrawA} → StartedA set seed_a d → Turn set s e seed_a old old d 0
   unfolding joined
-  turn_none {it = it} size rest none started =
+  turn_none started =
       record {
         within = omega arith;
-        ahead = ahead_begins set.n e it size rest none;
-        at = rw none (at_first started);
-        long = refl;
-        done = rw (none, append-nil (take 2 old)) (written_kept 2 old (omega (arith, asked.public_long)));
+        at = at_first started;
+        done = rw (append-nil (take 2 old)) (written_kept 2 old (omega (arith, asked.public_long)));
       }
 
-  module _ {public : List ℕ} {d : DrawA} {it : Rows} (turn : Turn set s e seed_a old public d it) where
-    so_far : length (take 2 old ++ upto set s e seed_a (enumerate_count it)) ≡ 2 + t_bytes set * enumerate_count it
-    so_far = upto_long set s e seed_a old (enumerate_count it) (omega (arith, asked.public_long))
+  module _ {public : List ℕ} {d : DrawA} {m : ℕ} (turn : Turn set s e seed_a old public d m) where
+    so_far : length (take 2 old ++ upto set s e seed_a m) ≡ 2 + t_bytes set * m
+    so_far = upto_long set s e seed_a old m (omega (arith, asked.public_long))
 
-    module _ {next : Rows} {i : ℕ} {x : List ℕ} (c : Comes set e it next i x) where
+    module _ {next i : ℕ} {x : List ℕ} (c : Comes set e m next i x) where
+      at_i : AtA set seed_a i d
+      at_i = rw c.at turn.at
+
       pub one_asks : Known set → ForOne set d s x i public
       one_asks known =
           record {
@@ -139,37 +135,32 @@ module _ {set : Numbers} {s e seed_a old : List ℕ} (asked : ForPut set s e old
                   e_long = rw c.is (polynomial_length set.n set.k i e asked.e_long c.inside);
                 };
             inside = c.inside;
-            public_long = turn.long ∙ asked.public_long;
+            public_long = written_length turn.done ∙ asked.public_long;
           }
         where
           asks : NextA set d set.n
-          asks = at_asks turn.at (known_good known) (rw c.at at c.inside) refl
+          asks = at_asks at_i (known_good known) c.inside refl
 
       pub turn_more : {public₁ : List ℕ} {d₁ : DrawA} → PutsOne set d s x i public public₁ d₁ → Turn set s e seed_a old public₁ d₁ next
       unfolding key_t joined
       turn_more {public₁} puts =
           record {
             within = omega (arith, c.inside, c.counted);
-            ahead = c.ahead;
             at = rw c.counted (at_next at_i c.inside puts.drawn);
-            long = written_length written;
             done = rw (c.counted, add-one, ← append_assoc (take 2 old) (upto set s e seed_a i) (one set s e seed_a i)) written;
           }
         where
-          at_i : AtA set seed_a i d
-          at_i = rw c.at turn.at
-
           written : Written ((take 2 old ++ upto set s e seed_a i) ++ one set s e seed_a i) old public₁
           written =
               written_more (rw c.at turn.done) (2 + t_bytes set * i) (t_bytes set) (one set s e seed_a i) (rw c.at (sym so_far)) (one_long set s e seed_a i)
               (stretch_fits set old i asked.public_long c.inside) (rw (at_written at_i puts.drawn, c.is) at puts.put)
 
-    pub turn_all : set.k ≤ enumerate_count it → PutsT set s e seed_a old public
-    turn_all m =
+    pub turn_all : m ≡ set.k → PutsT set s e seed_a old public
+    turn_all all =
         record {
           is =
-              turn.done.is ∙ ap (λ b. (take 2 old ++ upto set s e seed_a (enumerate_count it)) ++ drop b old) so_far
-              ∙ append_assoc (take 2 old) (upto set s e seed_a (enumerate_count it)) (drop (2 + t_bytes set * enumerate_count it) old)
-              ∙ ap (λ j. take 2 old ++ (upto set s e seed_a j ++ drop (2 + t_bytes set * j) old)) (le_antisymm turn.within m)
+              turn.done.is ∙ ap (λ b. (take 2 old ++ upto set s e seed_a m) ++ drop b old) so_far
+              ∙ append_assoc (take 2 old) (upto set s e seed_a m) (drop (2 + t_bytes set * m) old)
+              ∙ ap (λ j. take 2 old ++ (upto set s e seed_a j ++ drop (2 + t_bytes set * j) old)) all
               ∙ ap₂ (λ l b. take 2 old ++ (l ++ drop (2 + b) old)) (upto_all set s e seed_a) (mul_comm (t_bytes set) set.k);
         }

@@ -4,7 +4,7 @@ use mathlib.Core.Path.{◌≡◌, refl, sym, ap, ap₂, ◌∙◌}
 use mathlib.Core.Bool.{Bool, true, false}
 use mathlib.Core.List.{List, ◌++◌, append-nil, append_assoc}
 use Prim.Native.Nat.{ℕ, ◌+◌, ◌*◌, ◌-◌, ◌≤◌, ◌<◌}
-use native.Mathlib.Nat.{le_antisymm, mul_comm}
+use native.Mathlib.Nat.{mul_comm}
 use native.Mathlib.Numerals.{add-one}
 use native.Mathlib.Omega.{arith}
 use lib.Dec.{eqb, ltb}
@@ -23,9 +23,7 @@ use Rattle.packing.specs.Digits.{packed}
 use Rattle.sets.specs.declared.Numbers.{Numbers}
 use Rattle.sets.specs.Good.{Good}
 use Rattle.sets.specs.Known.{Known, known_good}
-use Rattle.records.specs.ChunksLaws.{Rows, Ahead, Comes, ahead_begins}
-use Rattle.std.specs.Iterator.Adapters.{enumerate_source, enumerate_count}
-use Rattle.std.specs.Slice.Iter.{chunks_exact_rest, chunks_exact_size}
+use Rattle.records.specs.ChunksLaws.{Comes}
 use Rattle.records.specs.Layout.{t_bytes, polynomial, mark}
 use Rattle.records.specs.Pieces.{standing_mark, standing_next, standing_copy, standing_all}
 use Rattle.records.specs.Public.{t_of, all_t, t_in_range, packed_t, public_record, seed_a_of, public_tests, read_public_tests, write_public_tests}
@@ -78,31 +76,24 @@ packed_of s t j = packed s.t_bits (polynomial s.n j t)
 piece_size : (s : Numbers) (t : List ℕ) → length t ≡ s.k * s.n → (j : ℕ) → j < s.k → length (packed_of s t j) ≡ t_bytes s
 piece_size s t long j l = packed_t_length_lem s (polynomial s.n j t) (polynomial_length s.n s.k j t long l)
 
--- packed t_1..t_i stand in the record after its mark, and t_(i + 1) comes next
-pub record WritingT (s : Numbers) (t old public : List ℕ) (it : Rows) : Type 0 where
-  pub near : enumerate_count it ≤ s.k
-  pub ahead : Ahead s.n t it
-  pub done : Written (take 2 old ++ joined (enumerate_count it) (packed_of s t)) old public
+-- packed t_1..t_m stand in the record after its mark
+pub record WritingT (s : Numbers) (t old public : List ℕ) (m : ℕ) : Type 0 where
+  pub near : m ≤ s.k
+  pub done : Written (take 2 old ++ joined m (packed_of s t)) old public
 
 module _ {s : Numbers} {t old : List ℕ} (r : PacksAllT s t old) where
-  pub writing_none : {it : Rows} → chunks_exact_size (enumerate_source it) ≡ s.n → chunks_exact_rest (enumerate_source it) ≡ t
-      → enumerate_count it ≡ 0 → WritingT s t old old it
+  pub writing_none : WritingT s t old old 0
   unfolding joined
-  writing_none {it} size rest e =
-      record {
-        near = omega arith;
-        ahead = ahead_begins s.n t it size rest e;
-        done = rw (e, append-nil (take 2 old)) (written_kept 2 old (omega (arith, r.long)));
-      }
+  writing_none = record { near = omega arith; done = rw (append-nil (take 2 old)) (written_kept 2 old (omega (arith, r.long))) }
 
-  module _ {public : List ℕ} {it : Rows} (p : WritingT s t old public it) where
-    so_far_written : length (take 2 old ++ joined (enumerate_count it) (packed_of s t)) ≡ 2 + t_bytes s * enumerate_count it
+  module _ {public : List ℕ} {m : ℕ} (p : WritingT s t old public m) where
+    so_far_written : length (take 2 old ++ joined m (packed_of s t)) ≡ 2 + t_bytes s * m
     so_far_written =
-        length-append (take 2 old) (joined (enumerate_count it) (packed_of s t))
+        length-append (take 2 old) (joined m (packed_of s t))
         ∙ ap₂ ◌+◌ (length-take-le 2 old (omega (arith, r.long)))
-        (joined_length (enumerate_count it) (t_bytes s) (packed_of s t) (λ j l. piece_size s t r.polynomials j (omega (arith, p.near))) ∙ mul_comm (enumerate_count it) (t_bytes s))
+        (joined_length m (t_bytes s) (packed_of s t) (λ j l. piece_size s t r.polynomials j (omega (arith, p.near))) ∙ mul_comm m (t_bytes s))
 
-    module _ {next : Rows} {i : ℕ} {x : List ℕ} (c : Comes s t it next i x) where
+    module _ {next i : ℕ} {x : List ℕ} (c : Comes s t m next i x) where
       pub writing_packs : PacksT s x i public
       writing_packs =
           rw c.is
@@ -118,26 +109,22 @@ module _ {s : Numbers} {t old : List ℕ} (r : PacksAllT s t old) where
           → new ≡ take (2 + t_bytes s * i) public ++ (packed s.t_bits x ++ drop (2 + t_bytes s * i + t_bytes s) public)
           → WritingT s t old new next
       unfolding joined
-      writing_more {new} e =
+      writing_more e =
           record {
             near = omega (arith, c.inside, c.counted);
-            ahead = c.ahead;
             done =
-                rw (c.counted, c.at, add-one, ← append_assoc (take 2 old) (joined (enumerate_count it) (packed_of s t)) (packed_of s t (enumerate_count it)))
-                (written_more p.done (2 + t_bytes s * enumerate_count it) (t_bytes s) (packed_of s t (enumerate_count it)) (sym so_far_written)
-                (piece_size s t r.polynomials (enumerate_count it) (rw c.at at c.inside))
-                (stretch_fits s old (enumerate_count it) r.long (rw c.at at c.inside)) (rw (c.is, c.at) at e));
+                rw (c.counted, add-one, ← append_assoc (take 2 old) (joined i (packed_of s t)) (packed_of s t i))
+                (written_more (rw c.at p.done) (2 + t_bytes s * i) (t_bytes s) (packed_of s t i) (rw c.at (sym so_far_written))
+                (piece_size s t r.polynomials i c.inside) (stretch_fits s old i r.long c.inside) (rw c.is at e));
           }
 
-    pub writing_all : s.k ≤ enumerate_count it → public ≡ take 2 old ++ (packed_t s t ++ drop (2 + s.k * t_bytes s) old)
+    pub writing_all : m ≡ s.k → public ≡ take 2 old ++ (packed_t s t ++ drop (2 + s.k * t_bytes s) old)
     unfolding packed_t
-    writing_all l =
-        let e : enumerate_count it ≡ s.k = le_antisymm p.near l in
+    writing_all e =
         rw (← e)
         (p.done.is
-        ∙ ap (λ (a : ℕ). (take 2 old ++ joined (enumerate_count it) (packed_of s t)) ++ drop a old)
-        (so_far_written ∙ ap (λ (a : ℕ). 2 + a) (mul_comm (t_bytes s) (enumerate_count it)))
-        ∙ append_assoc (take 2 old) (joined (enumerate_count it) (packed_of s t)) (drop (2 + enumerate_count it * t_bytes s) old))
+        ∙ ap (λ (a : ℕ). (take 2 old ++ joined m (packed_of s t)) ++ drop a old) (so_far_written ∙ ap (λ (a : ℕ). 2 + a) (mul_comm (t_bytes s) m))
+        ∙ append_assoc (take 2 old) (joined m (packed_of s t)) (drop (2 + m * t_bytes s) old))
 
 -- ---- reading
 

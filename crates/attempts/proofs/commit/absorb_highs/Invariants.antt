@@ -1,11 +1,9 @@
--- The loop of `attempts::commit::absorb_highs`. Its invariant: the high parts of v_1..v_i are absorbed. The measure is the number of those
--- left. Assumes nothing.
-use Prim.Native.Nat.{◌-◌}
-use Rattle.attempts.proofs.ProductSteps.{Absorbing}
+-- The loop of `attempts::commit::absorb_highs`. Its invariant: the high parts of as many v_i are absorbed as came. Assumes nothing.
+use Rattle.std.proofs.Common.{length}
+use Rattle.whole.specs.Table.{joined}
+use Rattle.highs.specs.Highs.{Held}
+use Rattle.attempts.proofs.ProductSteps.{parts_of}
 use Rattle.attempts.proofs.commit.absorb_highs.Given as goal
 
-abbrev pub invariant-loop-i : goal.invariant-loop-i
-invariant-loop-i l = Absorbing l.set l.v l.highs l.i
-
-abbrev pub decreases-loop-i : goal.decreases-loop-i
-decreases-loop-i l = l.k - l.i
+abbrev pub invariant-loop-v_i : goal.invariant-loop-v_i
+invariant-loop-v_i l = Held l.set (joined (length l.yielded) (parts_of l.set l.v)) l.highs

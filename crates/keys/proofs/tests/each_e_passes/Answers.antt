@@ -11,5 +11,5 @@ pub returns : goal.returns
 unfolding each_e_passes
 returns c =
     all_from_yields_List (sum_passes c.args.set.h c.args.set.e) _ _ _ c.all.ensures.ran
-    (yields_polynomials c.requires.good c.args.e.now c.requires.e_long (cc) (cc)) (λ x b q k. search (rules, tests))
+    (yields_polynomials c.requires.good c.args.e.now c.requires.e_long c.chunks_exact.result (cc) (cc)) (λ x b q k. search (rules, tests))
     ∙ every_table _ _ _
