@@ -1,7 +1,6 @@
 // Commitment: y of the counter, v_i = a_i y, and the high parts of v_1..v_k.
 ghost use Rattle.std.specs.Prelude.{◌≡◌};
 ghost use Rattle.whole.specs.Table.{joined};
-ghost use Rattle.sets.specs.Known.{Known};
 ghost use Rattle.sampling.specs.Streams.{highs_of};
 ghost use Rattle.records.specs.Layout.{polynomial};
 ghost use Rattle.highs.specs.Highs.{Held};
@@ -10,7 +9,7 @@ ghost use Rattle.attempts.specs.Promises.{Committed};
 ghost use Rattle.attempts.specs.Asks.{Multiplies, Absorbs, Commits};
 
 use highs::Highs;
-use sets::{Numbers, SEED_BYTES};
+use sets::{Numbers, SEED_BYTES, Set};
 
 // v_1..v_k in a row, v_i = a_i y modulo q: yr holds y modulo q.
 fn products(set: Numbers, a: &[u32], yr: &[u32], v: &mut [u32])
@@ -27,13 +26,12 @@ fn products(set: Numbers, a: &[u32], yr: &[u32], v: &mut [u32])
 }
 
 // The high parts of v_1..v_k, i then coefficient, absorbed.
-fn absorb_highs(set: Numbers, v: &[u32]) -> Highs
-    requires known { Known set }
-    requires absorbs { Absorbs set v.now }
-    ensures { Held set (highs_of set (λ i. polynomial set.n i v.now)) result }
+fn absorb_highs(set: Set, v: &[u32]) -> Highs
+    requires { Absorbs set.numbers v.now }
+    ensures { Held set.numbers (highs_of set.numbers (λ i. polynomial set.numbers.n i v.now)) result }
 {
-    let mut highs = highs::no_highs(set);
-    for v_i in v.chunks_exact(set.n) {
+    let mut highs = highs::no_highs(set.numbers);
+    for v_i in v.chunks_exact(set.numbers.n) {
         highs = highs::add_highs(set, highs, v_i);
     }
     highs
@@ -41,7 +39,7 @@ fn absorb_highs(set: Numbers, v: &[u32]) -> Highs
 
 // What is made before c' is known: y of the counter, v_1..v_k, and the high parts of v_1..v_k, absorbed. yr takes y modulo q.
 pub(crate) fn commit(
-    set: Numbers,
+    set: Set,
     a: &[u32],
     rand: &[u8; SEED_BYTES],
     counter: u16,
@@ -49,12 +47,11 @@ pub(crate) fn commit(
     yr: &mut [u32],
     v: &mut [u32],
 ) -> Highs
-    requires known { Known set }
-    requires commits { Commits set a.now y.old yr.old v.old }
-    ensures { Committed set a.now rand.now counter y.new v.new result }
+    requires { Commits set.numbers a.now y.old yr.old v.old }
+    ensures { Committed set.numbers a.now rand.now counter y.new v.new result }
 {
-    sampling::drawn::draw_y(set, rand, counter, y);
-    ring::sums::residues_of(y, set.q, yr);
-    products(set, a, yr, v);
+    sampling::drawn::draw_y(set.numbers, rand, counter, y);
+    ring::sums::residues_of(y, set.numbers.q, yr);
+    products(set.numbers, a, yr, v);
     absorb_highs(set, v)
 }

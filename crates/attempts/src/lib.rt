@@ -5,15 +5,13 @@ mod commit;
 mod respond;
 pub mod row;
 
-ghost use Rattle.std.specs.Prelude.{◌≡◌};
-ghost use Rattle.sets.specs.Known.{Known};
-ghost use Rattle.sets.specs.SetI.{set_i};
+ghost use Rattle.std.specs.Prelude.{◌≡◌, ◌*◌};
 ghost use Rattle.attempts.specs.Attempt.{key_of, attempt};
 ghost use Rattle.attempts.specs.Promises.{Challenged, Concluded, Tries};
 ghost use Rattle.attempts.specs.Asks.{Whole, Concludes, Places, Attempts};
 
 use highs::Highs;
-use sets::{DIGEST_BYTES, Numbers, SEED_BYTES, SetI};
+use sets::{DIGEST_BYTES, Numbers, SEED_BYTES, Set, SetI};
 
 // What an attempt comes to.
 #[derive(Drop)]
@@ -65,7 +63,7 @@ fn conclude(
 // Attempt number `counter`: where it passes, the signature record is written, and else it stays. a holds a_1..a_k. What else is lent
 // is scratch.
 fn attempt_in(
-    set: Numbers,
+    set: Set,
     secret: &[u8],
     a: &[u32],
     digest: &[u8; DIGEST_BYTES],
@@ -77,22 +75,21 @@ fn attempt_in(
     v: &mut [u32],
     z: &mut [i32],
 ) -> Tried
-    requires known { Known set }
-    requires attempts { Attempts set secret.now a.now signature.old }
-    requires places { Places set y.old yr.old v.old z.old }
-    ensures { Tries set (attempt set (key_of set secret.now) digest.now rand.now counter) signature.old signature.new result }
+    requires attempts { Attempts set.numbers secret.now a.now signature.old }
+    requires places { Places set.numbers y.old yr.old v.old z.old }
+    ensures { Tries set.numbers (attempt set.numbers (key_of set.numbers secret.now) digest.now rand.now counter) signature.old signature.new result }
 {
     let highs = commit::commit(set, a, rand, counter, y, yr, v);
     let fit = highs.fit;
     if !fit {
         return Tried::Overflows;
     }
-    conclude(set, secret, digest, highs, signature, y, yr, v, z)
+    conclude(set.numbers, secret, digest, highs, signature, y, yr, v, z)
 }
 
-// The same in set I: makes the scratch.
-fn attempt_i(
-    set: Numbers,
+// The same with scratch of its own.
+fn attempt_of<const N: usize, const KN: usize>(
+    set: Set,
     secret: &[u8],
     a: &[u32],
     digest: &[u8; DIGEST_BYTES],
@@ -100,22 +97,24 @@ fn attempt_i(
     counter: u16,
     signature: &mut [u8],
 ) -> Tried
-    requires set_value { set ≡ set_i }
-    requires attempts { Attempts set secret.now a.now signature.old }
-    ensures { Tries set (attempt set (key_of set secret.now) digest.now rand.now counter) signature.old signature.new result }
+    requires n_is { set.numbers.n ≡ N }
+    requires kn_is { set.numbers.k * set.numbers.n ≡ KN }
+    requires attempts { Attempts set.numbers secret.now a.now signature.old }
+    ensures { Tries set.numbers (attempt set.numbers (key_of set.numbers secret.now) digest.now rand.now counter) signature.old signature.new result }
 {
-    let mut y = [0i32; SetI::N];
-    let mut yr = [0u32; SetI::N];
-    let mut v = [0u32; SetI::K * SetI::N];
-    let mut z = [0i32; SetI::N];
+    let mut y = [0i32; N];
+    let mut yr = [0u32; N];
+    let mut v = [0u32; KN];
+    let mut z = [0i32; N];
     attempt_in(
         set, secret, a, digest, rand, counter, signature, &mut y, &mut yr, &mut v, &mut z,
     )
 }
 
 // The same in every set that there is.
+#[tactic(auto, using(sets::specs::Known::n_i, sets::specs::Known::kn_i, sets::specs::Known::no_other))]
 pub fn attempt(
-    set: Numbers,
+    set: Set,
     secret: &[u8],
     a: &[u32],
     digest: &[u8; DIGEST_BYTES],
@@ -123,13 +122,13 @@ pub fn attempt(
     counter: u16,
     signature: &mut [u8],
 ) -> Tried
-    requires known { Known set }
-    requires attempts { Attempts set secret.now a.now signature.old }
-    ensures { Tries set (attempt set (key_of set secret.now) digest.now rand.now counter) signature.old signature.new result }
+    requires { Attempts set.numbers secret.now a.now signature.old }
+    ensures { Tries set.numbers (attempt set.numbers (key_of set.numbers secret.now) digest.now rand.now counter) signature.old signature.new result }
 {
-    let digit = set.digit;
-    match digit {
-        1 => attempt_i(set, secret, a, digest, rand, counter, signature),
-        _ => Tried::Fails,
+    match set.numbers.digit {
+        1 => attempt_of::<{ SetI::N }, { SetI::KN }>(
+            set, secret, a, digest, rand, counter, signature,
+        ),
+        _ => unreachable!(),
     }
 }

@@ -129,6 +129,9 @@ impl SetI {
 
     pub const K: usize = 4;
 
+    // the coefficients of k polynomials in a row
+    pub const KN: usize = SetI::K * SetI::N;
+
     pub const Q: u32 = 343576577;
 
     pub const H: usize = 25;
@@ -179,6 +182,8 @@ impl SetIII {
     pub const N: usize = 2048;
 
     pub const K: usize = 5;
+
+    pub const KN: usize = SetIII::K * SetIII::N;
 
     pub const Q: u32 = 856145921;
 

@@ -1,12 +1,11 @@
 -- The search, one counter after another, and what it found. Assumes nothing.
-use mathlib.Core.Path.{◌≡◌, refl, ap, ◌∙◌}
+use mathlib.Core.Path.{◌≡◌, refl, sym, ap, ◌∙◌}
 use mathlib.Core.List.{List}
-use Prim.Native.Nat.{ℕ, zero, suc, ◌+◌, ◌≤◌, ◌<◌}
+use Prim.Native.Nat.{ℕ, zero, suc, ◌+◌, ◌*◌, ◌≤◌, ◌<◌}
 use native.Mathlib.Numerals.{add-one}
 use native.Mathlib.Omega.{arith}
 use lib.ListN.{length}
 use Rattle.sets.specs.declared.Numbers.{Numbers}
-use Rattle.sets.specs.SetI.{set_i}
 use Rattle.sampling.specs.Streams.{all_a}
 use Rattle.records.specs.Secret.{secret_seed_a}
 use Rattle.attempts.specs.declared.Tried.{Tried}
@@ -18,10 +17,10 @@ use Rattle.signing.specs.Search.{Found, next, search_from, search}
 use Rattle.signing.specs.Promises.{Gives}
 use Rattle.signing.specs.Asks.{Searches, SearchesKey}
 
--- ---- the search in set I
+-- ---- a_1..a_k, drawn once
 
-pub search_draws : {set : Numbers} {secret signature : List ℕ} {budget : ℕ} → set ≡ set_i → SearchesKey set secret budget signature → {a : List ℕ} → length a ≡ 4096 → DrawsKey set secret a
-search_draws e s l = record { whole = s.whole; a_long = rw e l }
+pub search_draws : {set : Numbers} {secret signature : List ℕ} {budget places : ℕ} → set.k * set.n ≡ places → SearchesKey set secret budget signature → {a : List ℕ} → length a ≡ places → DrawsKey set secret a
+search_draws e s l = record { whole = s.whole; a_long = l ∙ sym e }
 
 pub search_asks : {set : Numbers} {secret signature a : List ℕ} {budget : ℕ} → SearchesKey set secret budget signature → a ≡ all_a set (secret_seed_a set secret) → Searches set secret a budget signature
 search_asks s e = record { attempts = record { whole = s.whole; a_is = e; signature_long = s.signature_long }; few = s.few }
@@ -40,7 +39,7 @@ pub searching_none : (try : ℕ → Outcome) (budget : ℕ) (old : List ℕ) →
 searching_none try budget old = record { left = budget; within = omega arith; is = refl; same = refl; long = refl }
 
 -- the search where it goes on from this counter
-searching_is : {try : ℕ → Outcome} {budget : ℕ} {old signature : List ℕ} {counter : ℕ} → Searching try budget old signature counter → counter ≤ budget
+searching_is : {try : ℕ → Outcome} {budget : ℕ} {old signature : List ℕ} {counter : ℕ} → Searching try budget old signature counter → counter < budget + 1
     → (left : ℕ) × ((counter + 1 + left ≡ budget + 1) × (search try budget ≡ next (try counter) counter (search_from try left (suc counter))))
 unfolding search_from
 searching_is {try} {budget} {counter = counter} s l = go s.left s.within s.is
@@ -54,7 +53,7 @@ module _ {try : ℕ → Outcome} {budget : ℕ} {old signature : List ℕ} {coun
   pub searching_asks : {set : Numbers} {secret a : List ℕ} → Searches set secret a budget old → Attempts set secret a signature
   searching_asks h = rw s.same h.attempts
 
-  module _ (l : counter ≤ budget) {set : Numbers} {new : List ℕ} {r : Tried} (t : Tries set (try counter) signature new r) where
+  module _ (l : counter < budget + 1) {set : Numbers} {new : List ℕ} {r : Tried} (t : Tries set (try counter) signature new r) where
     abbrev later : Found
     later = search_from try (searching_is s l).0 (suc counter)
 
@@ -89,7 +88,7 @@ module _ {try : ℕ → Outcome} {budget : ℕ} {old signature : List ℕ} {coun
             }
         go overflows a w e = absurd (let x : ◌≡◌ {A = ℕ} 0 1 = cc in omega arith)
 
-  pub searching_end : budget < counter → {set : Numbers} → Gives set 0 (search try budget) old signature 8 0
+  pub searching_end : budget + 1 ≤ counter → {set : Numbers} → Gives set 0 (search try budget) old signature 8 0
   unfolding search_from
   searching_end l {set} = go s.left s.within s.is
     where

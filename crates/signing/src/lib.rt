@@ -7,7 +7,6 @@ mod search;
 
 ghost use Rattle.std.specs.Prelude.{◌++◌};
 ghost use Rattle.answers.specs.Answers.{number_of};
-ghost use Rattle.sets.specs.Known.{Known};
 ghost use Rattle.sets.specs.SetI.{set_i};
 ghost use Rattle.sampling.specs.Streams.{roster_message};
 ghost use Rattle.attempts.specs.Asks.{Whole};
@@ -17,7 +16,7 @@ ghost use Rattle.signing.specs.Asks.{SearchesKey};
 
 use answers::Refusal;
 use search::search_key;
-use sets::{DIGEST_BYTES, Numbers, Parameters, SEED_BYTES, SetI};
+use sets::{DIGEST_BYTES, Numbers, SEED_BYTES, Set};
 
 // G of a message in two pieces, and rand of the secret record's seed_y, r and that digest.
 fn hash_message(
@@ -40,7 +39,7 @@ fn hash_message(
 
 // Signs a message in two pieces, where every test passed.
 fn sign_tested(
-    set: Numbers,
+    set: Set,
     secret: &[u8],
     front: &[u8],
     rest: &[u8],
@@ -48,19 +47,18 @@ fn sign_tested(
     budget: u32,
     signature: &mut [u8],
 ) -> Result<u16, Refusal>
-    requires known { Known set }
-    requires searches_key { SearchesKey set secret.now budget signature.old }
-    ensures { Gives set 0 (sign_search set secret.now (front.now ++ rest.now) r.now budget) signature.old signature.new (number_of result) (counter_of result) }
+    requires { SearchesKey set.numbers secret.now budget signature.old }
+    ensures { Gives set.numbers 0 (sign_search set.numbers secret.now (front.now ++ rest.now) r.now budget) signature.old signature.new (number_of result) (counter_of result) }
 {
     let mut digest = [0u8; DIGEST_BYTES];
     let mut rand = [0u8; SEED_BYTES];
-    hash_message(set, secret, front, rest, r, &mut digest, &mut rand);
+    hash_message(set.numbers, secret, front, rest, r, &mut digest, &mut rand);
     search_key(set, secret, &digest, &rand, budget, signature)
 }
 
 // Signs a message in two pieces, with every test. No buffer joins them.
 fn sign_in(
-    set: Numbers,
+    set: Set,
     secret: &[u8],
     front: &[u8],
     rest: &[u8],
@@ -68,11 +66,10 @@ fn sign_in(
     budget: u32,
     signature: &mut [u8],
 ) -> Result<u16, Refusal>
-    requires { Known set }
-    ensures { Signs set secret.now (front.now ++ rest.now) r.now budget signature.old signature.new (number_of result) (counter_of result) }
+    ensures { Signs set.numbers secret.now (front.now ++ rest.now) r.now budget signature.old signature.new (number_of result) (counter_of result) }
 {
     inputs::test_inputs(
-        set,
+        set.numbers,
         secret,
         front.len(),
         rest.len(),
@@ -94,7 +91,7 @@ pub fn sign(
     ensures { Signs set_i secret.now message.now r.now budget signature.old signature.new (number_of result) (counter_of result) }
 {
     sign_in(
-        SetI::numbers(),
+        Set::i(),
         secret,
         &message[..0],
         message,
@@ -117,13 +114,5 @@ pub fn sign_roster(
     ensures { Signs set_i secret.now (roster_message team roster.now) r.now budget signature.old signature.new (number_of result) (counter_of result) }
 {
     let front = sampling::two_bytes(team);
-    sign_in(
-        SetI::numbers(),
-        secret,
-        &front,
-        roster,
-        r,
-        budget,
-        signature,
-    )
+    sign_in(Set::i(), secret, &front, roster, r, budget, signature)
 }

@@ -29,7 +29,7 @@ pub extern "C" fn speed_permute(lanes: &mut [u64; 25])
 
 // a_1..a_k of the record's seed_a, in a row.
 #[unsafe(no_mangle)]
-pub extern "C" fn speed_expand(secret: &[u8; SECRET_BYTES], a: &mut [u32; SetI::K * SetI::N])
+pub extern "C" fn speed_expand(secret: &[u8; SECRET_BYTES], a: &mut [u32; SetI::KN])
     ensures { a.new ≡ all_a set_i (secret_seed_a set_i secret.now) }
 {
     attempts::row::draw_key(SetI::numbers(), secret, a);

@@ -3,8 +3,8 @@ use Rattle.attempts.proofs.AttemptSteps.{attempt_commits, attempt_overflows, att
 use borrow.Author.Rules.{rules}
 use Rattle.attempts.proofs.attempt_in.Goals as goal
 
-pub commit-highs-requires-clause-commits : goal.commit-highs-requires-clause-commits
-commit-highs-requires-clause-commits c = search (attempt_commits, rules)
+pub commit-highs-requires : goal.commit-highs-requires
+commit-highs-requires c = search (attempt_commits, rules)
 
 pub returns-then-not-fit : goal.returns-then-not-fit
 returns-then-not-fit c = search (attempt_overflows, rules)

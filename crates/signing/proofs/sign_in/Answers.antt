@@ -7,5 +7,5 @@ use Rattle.signing.proofs.sign_in.Goals as goal
 pub test_inputs-requires : goal.test_inputs-requires
 test_inputs-requires c = search (known_good, rules)
 
-pub sign_tested-requires-clause-searches_key : goal.sign_tested-requires-clause-searches_key
-sign_tested-requires-clause-searches_key c = search (search_asked, c.in_ok-test_inputs.ensures, known_good, rules)
+pub sign_tested-requires : goal.sign_tested-requires
+sign_tested-requires c = search (search_asked, c.in_ok-test_inputs.ensures, known_good, rules)

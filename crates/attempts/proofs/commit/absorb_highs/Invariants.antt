@@ -6,4 +6,4 @@ use Rattle.attempts.proofs.ProductSteps.{parts_of}
 use Rattle.attempts.proofs.commit.absorb_highs.Given as goal
 
 abbrev pub invariant-loop-v_i : goal.invariant-loop-v_i
-invariant-loop-v_i l = Held l.set (joined (length l.yielded) (parts_of l.set l.v)) l.highs
+invariant-loop-v_i l = Held l.set.numbers (joined (length l.yielded) (parts_of l.set.numbers l.v)) l.highs

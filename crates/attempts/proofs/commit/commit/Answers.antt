@@ -9,8 +9,8 @@ residues_of-requires c = search (commit_small, rules)
 pub products-requires : goal.products-requires
 products-requires c = search (commit_multiplies, rules)
 
-pub absorb_highs-requires-clause-absorbs : goal.absorb_highs-requires-clause-absorbs
-absorb_highs-requires-clause-absorbs c = search (commit_absorbs, rules)
+pub absorb_highs-requires : goal.absorb_highs-requires
+absorb_highs-requires c = search (commit_absorbs, rules)
 
 pub returns : goal.returns
 returns c = search (commit_made, rules)

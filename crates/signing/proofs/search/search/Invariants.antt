@@ -1,12 +1,8 @@
 -- The loop of `signing::search::search`. Its invariant: every counter before this one fails, so the search goes on from it, and the
--- signature is as it was. The measure is what is left of the budget. Assumes nothing.
-use Prim.Native.Nat.{◌+◌, ◌-◌}
+-- signature is as it was. Assumes nothing.
 use Rattle.attempts.specs.Attempt.{key_of, attempt}
 use Rattle.signing.proofs.SearchSteps.{Searching}
 use Rattle.signing.proofs.search.search.Given as goal
 
 abbrev pub invariant-loop-counter : goal.invariant-loop-counter
-invariant-loop-counter l = Searching (attempt l.set (key_of l.set l.secret) l.digest l.rand) l.budget l.initial.signature l.signature l.counter
-
-abbrev pub decreases-loop-counter : goal.decreases-loop-counter
-decreases-loop-counter l = l.budget + 1 - l.counter
+invariant-loop-counter l = Searching (attempt l.set.numbers (key_of l.set.numbers l.secret) l.digest l.rand) l.budget l.initial.signature l.signature l.counter
