@@ -1,8 +1,9 @@
 // SHAKE256 as a sponge that is handed on by value.
 #![tactic(auto)]
 
-ghost use Rattle.std.specs.Prelude.{◌≡◌, Bool, true, [], ◌∷◌, ◌<◌, length};
-ghost use Rattle.shake.specs.Sponge.{xor_at, byte_at, blank, passed, absorbable, absorbed, ended, squeezable, bytes_of, state_after, squeezed, after_squeeze};
+ghost use Rattle.std.specs.Prelude.{◌≡◌, Bool, [], ◌∷◌, ◌<◌, length};
+ghost use Rattle.keccak.specs.Steps.{keccak_f};
+ghost use Rattle.shake.specs.Sponge.{xor_at, byte_at, blank, passed, absorbable, absorbed, ended, squeezable, squeezed, after_squeeze};
 
 // bytes of a block
 const RATE: usize = 136;
@@ -28,56 +29,45 @@ pub struct OneByte {
 #[derive(Drop)]
 pub struct Block {
     pub state: Sponge,
-    pub bytes: [u8; 136],
+    pub bytes: [u8; RATE],
 }
 
 // Byte p of the state ⊕ b: byte p % 8 of lane p / 8, lowest first.
 fn xor_at(lanes: &mut [u64; 25], p: usize, b: u8)
-    requires { p < 136 }
+    requires { p < RATE }
     ensures { lanes.new ≡ xor_at lanes.old p b }
 {
-    lanes[p / 8] = lanes[p / 8] ^ ((b as u64) << (8 * (p % 8)));
+    lanes[p / 8] ^= u64::from(b) << (8 * (p % 8));
 }
 
 // Byte p of the state.
 fn byte_at(lanes: &[u64; 25], p: usize) -> u8
-    requires { p < 136 }
+    requires { p < RATE }
     ensures { result ≡ byte_at lanes.now p }
 {
-    ((lanes[p / 8] >> (8 * (p % 8))) % 256) as u8
+    (lanes[p / 8] >> (8 * (p % 8)) & 0xff) as u8
+}
+
+// The permutation, in place. It stands by itself for speed: a function that holds a call's array clears that array whenever it begins,
+// and `pass` begins at every byte.
+fn permute(lanes: &mut [u64; 25])
+    ensures { lanes.new ≡ keccak_f lanes.old }
+{
+    *lanes = keccak::permute(*lanes);
 }
 
 // The place after p. At the end of the block that is 0, and the lanes are permuted.
 fn pass(lanes: &mut [u64; 25], p: usize) -> usize
-    requires { p < 136 }
+    requires { p < RATE }
     ensures { (squeezing : Bool) → passed lanes.old p squeezing
         ≡ record { lanes = lanes.new; place = result; squeezing = squeezing } }
 {
     if p + 1 == RATE {
-        let next = keccak::permute(*lanes);
-        *lanes = next;
+        permute(lanes);
         0
     } else {
         p + 1
     }
-}
-
-// The next out.len() bytes of a squeezing state at place p, into out: the place after them. The lanes are those after them too.
-fn fill(lanes: &mut [u64; 25], p: usize, out: &mut [u8]) -> usize
-    requires { p < 136 }
-    ensures bytes { out.new
-        ≡ bytes_of (length out.old) (record { lanes = lanes.old; place = p; squeezing = true }) }
-    ensures after { record { lanes = lanes.new; place = result; squeezing = true }
-        ≡ state_after (length out.old) (record { lanes = lanes.old; place = p; squeezing = true }) }
-{
-    let mut place = p;
-    let mut k = 0;
-    while k < out.len() {
-        out[k] = byte_at(lanes, place);
-        place = pass(lanes, place);
-        k += 1;
-    }
-    place
 }
 
 impl Sponge {
@@ -93,65 +83,52 @@ impl Sponge {
     }
 
     // What an absorb acts on.
-    #[tactic(auto, using(crate::specs::Pieces::absorbable_is, crate::proofs::Steps::absorbable_squeezing, crate::proofs::Steps::absorbable_out))]
     fn absorbable(self) -> Sponge
         ensures { result ≡ absorbable self }
     {
-        if self.place < RATE {
-            if self.squeezing { Self::blank() } else { self }
+        if self.place < RATE && !self.squeezing {
+            self
         } else {
             Self::blank()
         }
     }
 
     // Absorbs the byte b.
-    pub fn absorb_byte(mut self, b: u8) -> Sponge
+    pub fn absorb_byte(self, b: u8) -> Sponge
         ensures { result ≡ absorbed self (b ∷ []) }
     {
-        let start = self.absorbable();
-        let mut lanes = start.lanes;
-        let p = start.place;
-        xor_at(&mut lanes, p, b);
-        let place = pass(&mut lanes, p);
-        Sponge {
-            lanes,
-            place,
-            squeezing: false,
-        }
+        self.absorb(&[b])
     }
 
     // Absorbs the bytes, the first of them first.
-    pub fn absorb(mut self, bytes: &[u8]) -> Sponge
+    pub fn absorb(self, bytes: &[u8]) -> Sponge
         ensures { result ≡ absorbed self bytes.now }
     {
-        let start = self.absorbable();
-        let mut lanes = start.lanes;
-        let mut place = start.place;
-        let mut i = 0;
-        while i < bytes.len() {
-            xor_at(&mut lanes, place, bytes[i]);
+        let Sponge {
+            mut lanes,
+            mut place,
+            squeezing,
+        } = self.absorbable();
+        for b in bytes {
+            xor_at(&mut lanes, place, *b);
             place = pass(&mut lanes, place);
-            i += 1;
         }
         Sponge {
             lanes,
             place,
-            squeezing: false,
+            squeezing,
         }
     }
 
     // Absorbing ends: suffix and padding, and the permutation.
-    fn ended(self) -> Sponge
-        requires { self.place < 136 }
+    fn ended(mut self) -> Sponge
+        requires { self.place < RATE }
         ensures { result ≡ ended self }
     {
-        let mut lanes = self.lanes;
-        let p = self.place;
-        xor_at(&mut lanes, p, 0x1F);
-        xor_at(&mut lanes, RATE - 1, 0x80);
-        let next = keccak::permute(lanes);
+        xor_at(&mut self.lanes, self.place, 0x1F);
+        xor_at(&mut self.lanes, RATE - 1, 0x80);
         Sponge {
-            lanes: next,
+            lanes: keccak::permute(self.lanes),
             place: 0,
             squeezing: true,
         }
@@ -161,66 +138,54 @@ impl Sponge {
     fn squeezable(self) -> Sponge
         ensures { result ≡ squeezable self }
     {
-        if self.place < RATE {
-            if self.squeezing { self } else { self.ended() }
+        if self.place < RATE && self.squeezing {
+            self
         } else {
-            Self::blank().ended()
+            self.absorbable().ended()
         }
     }
 
     // Squeezes one byte.
-    pub fn squeeze_byte(mut self) -> OneByte
+    pub fn squeeze_byte(self) -> OneByte
         ensures byte { (result.byte ∷ []) ≡ squeezed 1 self }
         ensures state { result.state ≡ after_squeeze 1 self }
     {
-        let start = self.squeezable();
-        let mut lanes = start.lanes;
-        let p = start.place;
-        let byte = byte_at(&lanes, p);
-        let place = pass(&mut lanes, p);
+        let mut bytes = [0];
+        let state = self.squeeze(&mut bytes);
         OneByte {
-            state: Sponge {
-                lanes,
-                place,
-                squeezing: true,
-            },
-            byte,
+            state,
+            byte: bytes[0],
         }
     }
 
     // Squeezes 136 bytes, as many as a block has, from whatever place the state is at.
-    pub fn squeeze_block(mut self) -> Block
+    pub fn squeeze_block(self) -> Block
         ensures bytes { result.bytes ≡ squeezed 136 self }
         ensures state { result.state ≡ after_squeeze 136 self }
     {
-        let start = self.squeezable();
-        let mut lanes = start.lanes;
-        let p = start.place;
         let mut bytes = [0; RATE];
-        let place = fill(&mut lanes, p, &mut bytes);
-        Block {
-            state: Sponge {
-                lanes,
-                place,
-                squeezing: true,
-            },
-            bytes,
-        }
+        let state = self.squeeze(&mut bytes);
+        Block { state, bytes }
     }
 
     // Squeezes as many bytes as out has places, into out.
-    pub fn squeeze(mut self, out: &mut [u8]) -> Sponge
+    pub fn squeeze(self, out: &mut [u8]) -> Sponge
         ensures state { result ≡ after_squeeze (length out.old) self }
         ensures bytes { out.new ≡ squeezed (length out.old) self }
     {
-        let start = self.squeezable();
-        let mut lanes = start.lanes;
-        let p = start.place;
-        let place = fill(&mut lanes, p, out);
+        let Sponge {
+            mut lanes,
+            mut place,
+            squeezing,
+        } = self.squeezable();
+        for byte in out {
+            *byte = byte_at(&lanes, place);
+            place = pass(&mut lanes, place);
+        }
         Sponge {
             lanes,
             place,
-            squeezing: true,
+            squeezing,
         }
     }
 }

@@ -1,16 +1,16 @@
--- The goals of `shake::Sponge::absorb` that want an answer by hand. Assumes nothing.
-use borrow.Author.Rules.{rules}
-use native.Mathlib.Omega.{arith}
-use Rattle.shake.proofs.Steps.{absorbing_none, absorbing_byte, absorbing_all, absorbed_is}
+-- The goals of `Sponge::absorb` that want an answer by hand. Assumes nothing.
+use Rattle.std.proofs.Common.{arith}
+use Rattle.shake.proofs.Steps.{absorbing_none, absorbing_byte, absorbing_all}
 use Rattle.shake.proofs.Sponge.absorb.Goals as goal
 
-pub loop-i-init : goal.loop-i-init
-loop-i-init c = search (absorbing_none, rules)
+pub loop-b-init : goal.loop-b-init
+loop-b-init c = absorbing_none c.args.self _ c.absorbable-place.ensures
 
-pub loop-i-preserved : goal.loop-i-preserved
-loop-i-preserved c =
-    let head = c.loop-i in
-    (omega arith, absorbing_byte head.invariant.1 c.xor_at.ensures c.pass-place.ensures (omega arith) (omega arith) (omega arith) (omega arith))
+pub xor_at-requires : goal.xor_at-requires
+xor_at-requires c = c.loop-b.invariant.sound.within
+
+pub loop-b-preserved : goal.loop-b-preserved
+loop-b-preserved c = absorbing_byte c.loop-b.invariant c.loop-b-test.true c.xor_at.ensures (c.pass-place.ensures _)
 
 pub returns : goal.returns
-returns c = search (absorbed_is, absorbing_all, rules)
+returns c = absorbing_all c.loop-b.invariant _ c.absorbable-place.ensures (omega arith)

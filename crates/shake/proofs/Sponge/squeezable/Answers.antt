@@ -1,19 +1,25 @@
 -- `Sponge::squeezable` meets its contract: its cases are the definition's. Assumes nothing.
-use mathlib.Core.Path.{sym, ◌∙◌}
-use borrow.Author.Rules.{rules}
-use native.Mathlib.Omega.{arith}
-use Rattle.shake.specs.Pieces.{sound_blank, squeezable_is, squeezable_ended}
-use Rattle.shake.proofs.Steps.{squeezable_out}
+use Rattle.std.proofs.Common.{sym, ap, ◌∙◌, false}
+use Rattle.shake.specs.Sponge.{ended}
+use Rattle.shake.specs.Pieces.{Sound, sound_absorbable, absorbable_is, squeezable_is, squeezable_ended}
+use Rattle.shake.proofs.Steps.{absorbable_out, squeezable_out}
 use Rattle.shake.proofs.Sponge.squeezable.Goals as goal
+use Rattle.shake.proofs.Sponge.squeezable.Goals.{else-self-lt-RATE-via-then-self-lt-RATE+else-self, else-self-lt-RATE-via-else-self-lt-RATE}
 
-pub ended-requires-else-self-lt-RATE : goal.ended-requires-else-self-lt-RATE
-ended-requires-else-self-lt-RATE c = rw c.blank.ensures sound_blank.within
+pub ended-requires : goal.ended-requires
+ended-requires c = rw c.absorbable.ensures (sound_absorbable c.args.self).within
 
 pub returns-then-self : goal.returns-then-self
-returns-then-self c = sym (squeezable_is _ (record { phase = search rules; within = omega arith }))
-
-pub returns-else-self : goal.returns-else-self
-returns-else-self c = c.ended.ensures ∙ sym (squeezable_ended _ (record { phase = search rules; within = omega arith }))
+returns-then-self c = sym (squeezable_is c.args.self (record { phase = c.if-self.true; within = c.if-self-lt-RATE.true }))
 
 pub returns-else-self-lt-RATE : goal.returns-else-self-lt-RATE
-returns-else-self-lt-RATE c = c.ended-else-self-lt-RATE.ensures ∙ rw c.blank.ensures (sym (squeezable_out _ (omega arith)))
+returns-else-self-lt-RATE c =
+    let s = c.args.self in
+    c.ended.ensures ∙ ap ended c.absorbable.ensures
+    ∙ elim c.else-self-lt-RATE.branch [
+      | else-self-lt-RATE-via-then-self-lt-RATE+else-self w ↦
+          let absorbs : Sound false s = record { phase = w.if-self.false; within = w.if-self-lt-RATE.true } in
+          ap ended (absorbable_is s absorbs) ∙ sym (squeezable_ended s absorbs)
+      | else-self-lt-RATE-via-else-self-lt-RATE w ↦
+          ap ended (absorbable_out s w.if-self-lt-RATE.false) ∙ sym (squeezable_out s w.if-self-lt-RATE.false)
+    ]

@@ -1,13 +1,18 @@
--- `Sponge::squeeze` meets its contract: what `fill` ensures, from what a squeeze acts on. Assumes nothing.
-use borrow.Author.Rules.{rules}
-use Rattle.shake.proofs.Steps.{squeezable_near, squeezed_is, after_is}
+-- The goals of `Sponge::squeeze` that want an answer by hand. Assumes nothing.
+use Rattle.std.proofs.Common.{arith}
+use Rattle.shake.proofs.Steps.{squeezing_none, squeezing_byte, squeezing_all}
 use Rattle.shake.proofs.Sponge.squeeze.Goals as goal
 
-pub fill-place-requires : goal.fill-place-requires
-fill-place-requires c = search (squeezable_near, rules)
+pub loop-byte-init : goal.loop-byte-init
+loop-byte-init c = squeezing_none c.args.self _ c.squeezable-place.ensures
 
-pub returns-clause-state : goal.returns-clause-state
-returns-clause-state c = search (after_is, squeezed_is, rules)
+pub byte_at-requires : goal.byte_at-requires
+byte_at-requires c = c.loop-byte.invariant.sound.within
 
-pub returns-clause-bytes : goal.returns-clause-bytes
-returns-clause-bytes c = search (after_is, squeezed_is, rules)
+pub loop-byte-preserved : goal.loop-byte-preserved
+loop-byte-preserved c = squeezing_byte c.loop-byte.invariant (omega arith) c.byte_at.ensures (c.pass-place.ensures _)
+
+pub returns : goal.returns
+returns c =
+    let r = squeezing_all c.loop-byte.invariant c.args.self _ c.squeezable-place.ensures (omega arith) (omega arith) in
+    record { state = r.0; bytes = r.1 }
