@@ -9,7 +9,7 @@ use native.Mathlib.Nat.{add-zero, mod-lt, mod-add-mod, mod-mod, zero-add}
 use native.Mathlib.Numerals.{add-one}
 use native.Mathlib.Omega.{arith}
 use lib.ListN.{length, get_or, take, drop, length-drop}
-use lib.Seq.{take_all, length-take-le, get_or-take, get_or-drop}
+use lib.Seq.{length-take-le, get_or-take, get_or-drop}
 use lib.IntN.{ℤ, pos, ◌+ℤ◌, ◌-ℤ◌, ◌*ℤ◌}
 use Rattle.whole.specs.Int.{int, sum_is, minus_is, *ℤ-assoc}
 use Rattle.whole.specs.Residue.{residue, Same}
@@ -154,30 +154,12 @@ module _ (a b : List ℕ) (k : ℕ) (inside : k < length a) where
       ∙ ap₂ ◌-ℤ◌ (sum_total (suc k) (λ i. get_or a i 0 * get_or b (k - i) 0) ∙ ap pos (sym front))
       (sum_total m (λ j. get_or a (suc k + j) 0 * get_or b (suc k + (m - suc j)) 0) ∙ ap pos (sym back))
 
--- ---- the two parts of a row as the code lends them
-
--- the entries above k, and those up to k
-abbrev pub above : ℕ → List ℕ → List ℕ
-above k xs = take (length xs - (k + 1)) (drop (k + 1) xs)
-
-abbrev pub upto : ℕ → List ℕ → List ℕ
-upto k xs = take (k + 1) xs
-
-above_is : (k : ℕ) (xs : List ℕ) → above k xs ≡ drop (suc k) xs
-above_is k xs =
-    ap (λ (n : ℕ). take (length xs - n) (drop n xs)) (add-one k)
-    ∙ take_all (length xs - suc k) (drop (suc k) xs) (omega (arith, length-drop (suc k) xs))
-
-upto_is : (k : ℕ) (xs : List ℕ) → upto k xs ≡ take (suc k) xs
-upto_is k xs = ap (λ (n : ℕ). take n xs) (add-one k)
-
-module _ {q multiple : ℕ} {a b : List ℕ} {k : ℕ} (r : Row q multiple a b k) where
-  pub row_is : (w s : ℕ) → Kept multiple (0 + crossed (above k a) (above k b)) w
-      → Kept multiple (multiple - w + crossed (upto k a) (upto k b)) s → s % q ≡ residue q (mul (length a) (naturals a) (naturals b) k)
-  row_is w s kw ks =
-      kept_residue q multiple r.some r.whole w (crossed (drop (suc k) a) (drop (suc k) b)) s (crossed (take (suc k) a) (take (suc k) b))
-      (rw (above_is k a, above_is k b) at kw) (rw (upto_is k a, upto_is k b) at ks)
-      ∙ ap (residue q) (sym (coefficient a b k r.inside))
+-- what the code makes of its two sums: w is of what comes back at the front, with the other sign, and s of the rest
+pub row_is : {q multiple : ℕ} {a b : List ℕ} {k : ℕ} (r : Row q multiple a b k) (w s : ℕ) → Kept multiple (0 + crossed (drop (k + 1) a) (drop (k + 1) b)) w
+    → Kept multiple (multiple - w + crossed (take (k + 1) a) (take (k + 1) b)) s → s % q ≡ residue q (mul (length a) (naturals a) (naturals b) k)
+row_is {q} {multiple} {a} {b} {k} r w s kw ks =
+    kept_residue q multiple r.some r.whole w (crossed (drop (suc k) a) (drop (suc k) b)) s (crossed (take (suc k) a) (take (suc k) b)) (rw add-one at kw) (rw add-one at ks)
+    ∙ ap (residue q) (sym (coefficient a b k r.inside))
 
 -- ---- every row of a product
 

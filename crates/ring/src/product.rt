@@ -31,9 +31,10 @@ fn row(a: &[u32], b: &[u32], q: u32, multiple: u64, k: usize) -> u32
     requires { Row q multiple a.now b.now k }
     ensures { result ≡ residue q (mul (length a.now) (naturals a.now) (naturals b.now) k) }
 {
-    let next = k + 1;
-    let wrapped = fold(&a[next..], &b[next..], 0, multiple);
-    let sum = fold(&a[..next], &b[..next], multiple - wrapped, multiple);
+    let (a_upto, a_above) = a.split_at(k + 1);
+    let (b_upto, b_above) = b.split_at(k + 1);
+    let wrapped = fold(a_above, b_above, 0, multiple);
+    let sum = fold(a_upto, b_upto, multiple - wrapped, multiple);
     (sum % u64::from(q)) as u32
 }
 
@@ -42,7 +43,7 @@ fn multiple_of(q: u32) -> u64
     requires { (0 < q) × (q ≤ 2 ^ 31) }
     ensures { Multiple q result }
 {
-    u64::from(q) * (9223372036854775808 / u64::from(q))
+    (1 << 63) / u64::from(q) * u64::from(q)
 }
 
 // out = a · b modulo q: n coefficients from 0 to q − 1, as a and b hold them.
