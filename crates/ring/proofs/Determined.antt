@@ -1,6 +1,6 @@
 -- The contracts of this crate's public functions determine their results, and what they leave in the lists that they write.
 -- Assumes nothing.
-use mathlib.Core.Path.{◌∙◌, sym}
+use Rattle.std.proofs.Common.{◌∙◌, sym}
 use Rattle.whole.specs.Determined.{Result, Output}
 use Rattle.ring.proofs.product.multiply.Kinds as multiply_kinds
 use Rattle.ring.proofs.product.multiply.Reads as multiply

@@ -1,10 +1,9 @@
 -- What the loop of `sums::update` keeps, and what its callers show and learn. Assumes nothing.
-use Rattle.std.proofs.Common.{◌≡◌, ℕ, zero, suc, ◌+◌, ◌≤◌, ◌<◌, List, [], ◌∷◌, length, get_or, take, drop, set, refl, arith, add-one}
-use Rattle.std.specs.List.{AllZip, zip}
+use Rattle.std.proofs.Common.{◌≡◌, ℕ, zero, suc, ◌+◌, ◌≤◌, ◌<◌, List, [], ◌∷◌, length, get_or, take, drop, set, refl, arith, add-one, zip, take_all}
+use Rattle.std.specs.List.{AllZip}
+use Rattle.std.proofs.lemmas.Slice.Zip.{AllZip-long, length-zip}
 use Rattle.whole.specs.Table.{table}
 use Rattle.whole.specs.TableLaws.{table_is}
-use Rattle.std.proofs.Math.Seq.{take_all}
-use Rattle.std.proofs.lemmas.Slice.Zip.{AllZip-long, length-zip}
 
 -- R of each pair and what stands in its place, at the first i places of `now`; what was there at the others
 pub record Updated {A B : Type 0} (R : A × B → A → Type 0) (old : List A) (from : List B) (i : ℕ) (now : List A) : Type 0 where

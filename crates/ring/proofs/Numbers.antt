@@ -1,14 +1,6 @@
 -- What the code computes on single numbers is what the definitions say: residues of sums and differences, and signed bytes. Assumes nothing.
-use mathlib.Core.Path.{◌≡◌, sym, ap, ◌∙◌}
-use mathlib.Core.Bool.{false}
-use mathlib.Core.Logic.{⊎_elim}
-use Prim.Native.Nat.{ℕ, suc, ◌+◌, ◌*◌, ◌-◌, ◌^◌, ◌≤◌, ◌<◌}
-use native.Mathlib.Nat.{mul-one}
-use native.Mathlib.Omega.{arith}
-use mir.Syntax.{w8, w32}
-use mir.Val.{to_z, of_z, SFits}
-use mir.Facts.{to_z_pos, to_z-neg, to_z-of_z}
-use lib.IntN.{ℤ, pos, negsuc, neg_ℤ, nat_abs, ◌+ℤ◌, ◌-ℤ◌}
+use Rattle.std.proofs.Common.{◌≡◌, sym, ap, ◌∙◌, false, ⊎_elim, ℕ, suc, ◌+◌, ◌*◌, ◌-◌, ◌^◌, ◌≤◌, ◌<◌, mul-one, arith, w8, w32, to_z, of_z, SFits, to_z-of_z, ℤ, pos, negsuc, neg_ℤ, nat_abs, ◌+ℤ◌, ◌-ℤ◌}
+use Rattle.std.proofs.Math.Facts.{to_z_pos, to_z-neg}
 use lib.Signed.{lt_z}
 use Rattle.whole.specs.Int.{int, lt_or_le, sum_is, minus_is, up_neg, down_neg, not_negative_is}
 use Rattle.whole.specs.Residue.{residue, Same}

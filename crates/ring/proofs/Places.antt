@@ -1,16 +1,10 @@
--- What the loops of `largest` keep: a push that has gone past the first i places, a sum of the first i places, and the places
--- when the bytes from k on have been pushed in. Assumes nothing.
-use mathlib.Core.Path.{◌≡◌, refl, sym, ap, ◌∙◌}
-use mathlib.Core.List.{List, [], ◌∷◌, ◌++◌, append-nil, reverse-cons, reverse}
-use Prim.Native.Nat.{ℕ, zero, suc, ◌+◌, ◌*◌, ◌^◌, ◌≤◌, ◌<◌, min, max}
-use native.Mathlib.Numerals.{add-one}
-use native.Mathlib.Omega.{arith}
-use lib.ListN.{length, get_or, take, drop, set, replicate, length-replicate, length-map, get_or-map, drop_of_length-le}
-use lib.Seq.{set-get_or, take_all}
-use Rattle.std.specs.List.{sum, fold}
+-- What `largest` finds: a push that has gone past the first i places, the places when all bytes have been pushed in, and how much
+-- they sum to. Assumes nothing.
+use Rattle.std.proofs.Common.{◌≡◌, refl, sym, ap, ◌∙◌, List, [], ◌∷◌, ◌++◌, append-nil, reverse, ℕ, zero, suc, ◌+◌, ◌*◌, ◌^◌, ◌≤◌, ◌<◌, min, max, add-one, arith, length, get_or, take, drop, set, replicate, drop_of_length-le, take_all, sum, fold, lit<, nat_abs}
+use mathlib.Core.List.{reverse-cons}
+use Rattle.std.proofs.Math.ListN.{length-replicate, length-map, get_or-map}
+use Rattle.std.proofs.Math.Seq.{set-get_or}
 use Rattle.std.proofs.lemmas.List.Sums.{sum_by-cons, fold_push}
-use lib.Dec.{lit<}
-use lib.IntN.{nat_abs}
 use Rattle.whole.specs.Below.{Below}
 use Rattle.whole.specs.BelowLaws.{below_cons, below_tail, below_zeros}
 use Rattle.whole.specs.Twos.{signed}

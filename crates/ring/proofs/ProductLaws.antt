@@ -1,16 +1,8 @@
 -- A sum that is kept up to multiples of a multiple of q gives the residue of a coefficient of the product. Assumes nothing.
-use mathlib.Core.Path.{◌≡◌, sym, ap, ap₂, subst, ◌∙◌}
-use mathlib.Core.List.{List, reverse}
-use Rattle.std.specs.List.{zip}
+use Rattle.std.proofs.Common.{◌≡◌, sym, ap, ap₂, subst, ◌∙◌, List, reverse, zip, ℕ, suc, ◌+◌, ◌*◌, ◌-◌, ◌%◌, ◌≤◌, ◌<◌, add-zero, mod-lt, zero-add, add-one, arith, length, get_or, take, drop, length-drop, length-take-le, get_or-take, get_or-drop, ℤ, pos, ◌+ℤ◌, ◌-ℤ◌, ◌*ℤ◌}
 use Rattle.std.proofs.lemmas.List.{get_or_default, get_or-reverse, length-reverse}
 use Rattle.std.proofs.lemmas.Slice.Zip.{length-zip, get_or-zip}
-use Prim.Native.Nat.{ℕ, suc, ◌+◌, ◌*◌, ◌-◌, ◌%◌, ◌≤◌, ◌<◌}
-use native.Mathlib.Nat.{add-zero, mod-lt, mod-add-mod, mod-mod, zero-add}
-use native.Mathlib.Numerals.{add-one}
-use native.Mathlib.Omega.{arith}
-use lib.ListN.{length, get_or, take, drop, length-drop}
-use lib.Seq.{length-take-le, get_or-take, get_or-drop}
-use lib.IntN.{ℤ, pos, ◌+ℤ◌, ◌-ℤ◌, ◌*ℤ◌}
+use Rattle.std.proofs.Math.Nat.{mod-add-mod, mod-mod}
 use Rattle.whole.specs.Int.{int, sum_is, minus_is, *ℤ-assoc}
 use Rattle.whole.specs.Residue.{residue, Same}
 use Rattle.whole.specs.ResidueLaws.{residue_is, residue_eq_same, same_refl, same_sym, same_trans, same_minus}

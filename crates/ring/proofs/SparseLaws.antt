@@ -1,14 +1,13 @@
 -- The code's sums over the positions of a sparse polynomial are coefficients of the product by it. Assumes nothing.
-use Rattle.std.proofs.Common.{◌≡◌, refl, sym, ap, ap₂, ◌∙◌, List, [], ◌∷◌, map, ℕ, suc, ◌+◌, ◌*◌, ◌-◌, ◌^◌, ◌≤◌, ◌<◌, min, length, get_or, ℤ, pos, negsuc, neg_ℤ, nat_abs, ◌+ℤ◌, ◌*ℤ◌, inl, inr, ⊎_elim, w8, w32, w64, to_z, of_z, arith, add-one}
-use Rattle.std.proofs.lemmas.Int.{to_z-of_z, fits_signed_from_abs}
-use mir.Val.{SFits}
+use Rattle.std.proofs.Common.{◌≡◌, refl, sym, ap, ap₂, ◌∙◌, List, [], ◌∷◌, map, ℕ, suc, ◌+◌, ◌*◌, ◌-◌, ◌^◌, ◌≤◌, ◌<◌, min, length, get_or, ℤ, pos, negsuc, neg_ℤ, nat_abs, ◌+ℤ◌, ◌*ℤ◌, inl, inr, ⊎_elim, w8, w32, w64, to_z, of_z, arith, add-one, to_z-of_z, SFits}
+use Rattle.std.proofs.lemmas.Int.{fits_signed_from_abs}
+use Rattle.std.specs.Int.{int_rem_euclid}
+use Rattle.std.proofs.lemmas.List.{get_or_default, length-map}
+use Rattle.std.proofs.Math.ListN.{get_or-map}
 use Rattle.whole.specs.Int.{lt_or_le, abs_sum, abs_neg, abs_product}
 use Rattle.whole.specs.Residue.{residue}
 use Rattle.whole.specs.Twos.{signed}
 use Rattle.whole.specs.TwosLaws.{signed_size}
-use Rattle.std.specs.Int.{int_rem_euclid}
-use Rattle.std.proofs.lemmas.List.{get_or_default, length-map}
-use Rattle.std.proofs.Math.ListN.{get_or-map}
 use Rattle.whole.specs.Sum.{sum}
 use Rattle.whole.specs.SumLaws.{sum_first}
 use Rattle.ring.specs.Product.{Poly, turn, mul}
@@ -61,7 +60,7 @@ sign_read {s} (inl e) = rw e
 sign_read {s} (inr e) = rw e
 
 word : (z : ℤ) → nat_abs z < 2 ^ 63 → to_z w64 (of_z w64 z) ≡ z
-word z h = to_z-of_z w64 z (fits_signed_from_abs w64 z h)
+word z h = to_z-of_z (fits_signed_from_abs w64 z h)
 
 module _ {n : ℕ} {f : Poly} {ps : List ℕ} {ss : List ℤ} {k : ℕ} where
   pub summed_none : Summed n f ps ss k 0 (pos 0)
@@ -124,7 +123,7 @@ pub sparse_row_of : {q : ℕ} {t ps : List ℕ} {ss : List ℤ} {out : List ℕ}
     → SFits w64 r → r ≡ turns (length t) (integers (map pos t)) ps ss k → d ≡ pos q → m ≡ int_rem_euclid (to_z w64 (of_z w64 r)) (to_z w64 (of_z w64 d))
     → nat_abs m < nat_abs (to_z w64 (of_z w64 d)) → nat_abs (to_z w64 (of_z w64 m)) ≡ residue q (mul (length out) (naturals t) (sparse ps ss) k)
 sparse_row_of {q} {t} {ps} {ss} {out} h k {r} {d} {m} l s b e f g c =
-    ap nat_abs (word m (omega (arith, c, ap nat_abs d_is)) ∙ g ∙ ap₂ int_rem_euclid (to_z-of_z w64 r b) d_is)
+    ap nat_abs (word m (omega (arith, c, ap nat_abs d_is)) ∙ g ∙ ap₂ int_rem_euclid (to_z-of_z b) d_is)
     ∙ residue_as q r
     ∙ ap (residue q) (e ∙ product_of (naturals_as t) h.terms l h.long)
   where
@@ -161,4 +160,4 @@ module _ {s ps : List ℕ} {ss out : List ℤ} (h : ByteProduct s ps ss out) (b 
   byte_row_fits = rw (word r (omega (arith, small))) (fits_signed_from_abs w32 r small)
 
   pub byte_row_of : to_z w32 (of_z w32 (to_z w64 (of_z w64 r))) ≡ mul (length out) (signed_bytes s) (sparse ps ss) k
-  byte_row_of = to_z-of_z w32 (to_z w64 (of_z w64 r)) byte_row_fits ∙ word r (omega (arith, small)) ∙ e ∙ product_of (bytes_as s) h.terms l h.long
+  byte_row_of = to_z-of_z byte_row_fits ∙ word r (omega (arith, small)) ∙ e ∙ product_of (bytes_as s) h.terms l h.long

@@ -1,6 +1,6 @@
 -- The goals of `ring::sums::minus` that want an answer by hand. Assumes nothing.
 use Rattle.ring.proofs.Numbers.{minus_low, minus_high}
-use borrow.Author.Rules.{rules}
+use Rattle.std.proofs.Common.{rules}
 use Rattle.ring.proofs.sums.minus.Goals as goal
 
 pub returns-then-b-a : goal.returns-then-b-a
