@@ -1,70 +1,47 @@
--- The steps of reading one candidate, from its last byte to its first. Assumes nothing.
-use mathlib.Core.Path.{◌≡◌, ◌∙◌}
-use mathlib.Core.List.{List}
-use Prim.Native.Nat.{ℕ, ◌+◌, ◌*◌, ◌/◌, ◌%◌, ◌^◌, ◌≤◌, ◌<◌}
-use native.Mathlib.Nat.{le_of_eq, div-mul-le_self, mul-le-mul_left, le_refl, mul_comm, lt_of_lt_of_le}
+-- What a candidate is: the number of its bytes, low byte first. And where it stands in a stretch.
+-- Assumes nothing.
+use mathlib.Core.Path.{◌≡◌, refl, sym, ap, ◌∙◌}
+use native.Mathlib.Nat.{add_comm, mul-zero, mul-suc}
+use mathlib.Core.List.{List, [], ◌∷◌}
+use Prim.Native.Nat.{ℕ, zero, suc, ◌*◌, ◌%◌, ◌^◌, ◌≤◌, ◌<◌}
 use native.Mathlib.Omega.{arith}
-use lib.ListN.{length, get_or, take, drop, length-drop, drop_of_length-le}
 use lib.Pow.{pow_mono}
+use Rattle.std.specs.Prelude.{fold, reverse, bit_or}
+use Rattle.std.proofs.lemmas.Grind.{or_after_shift}
+use Rattle.std.proofs.lemmas.List.Sums.{fold_push}
 use Rattle.whole.specs.Below.{Below}
-use Rattle.whole.specs.BelowLaws.{below_drop, below_part}
-use Rattle.whole.specs.Parts.{part_length, part_at}
+use Rattle.whole.specs.BelowLaws.{below_tail}
+use Rattle.packing.specs.Laws.{value_below}
+use lib.ListN.{length, get_or, take, drop}
+use Rattle.std.proofs.lemmas.List.{drop-drop, reverse-append}
+use Rattle.std.specs.Simd.{first_chunks}
 use Rattle.packing.specs.Digits.{value}
-use Rattle.packing.specs.Laws.{value_drop, value_below}
-use Rattle.sampling.specs.Candidates.{held, piece}
+use Rattle.sampling.specs.Candidates.{piece}
 
--- a candidate that is held lies within the stretch
-pub held_room : (size j : ℕ) (stretch : List ℕ) → j < held size stretch → size * j + size ≤ length stretch
-held_room size j stretch h =
-    omega (arith, mul-le-mul_left size h, div-mul-le_self (length stretch) size, mul_comm size (length stretch / size))
+-- up to four bytes, from the last to the first, each behind those before it
+pub low_first : (bytes : List ℕ) → Below 256 bytes → length bytes ≤ 4 → fold (λ v b. bit_or (v * 256 % 2 ^ 32) b) 0 (reverse bytes) ≡ value 8 bytes
+unfolding value
+low_first [] b l = refl
+low_first (x ∷ xs) b l =
+    ap (fold (λ v b. bit_or (v * 256 % 2 ^ 32) b) 0) (reverse-append (x ∷ []) xs) ∙ fold_push (λ v b. bit_or (v * 256 % 2 ^ 32) b) 0 (reverse xs) x
+    ∙ rw (low_first xs (below_tail b) (omega arith), or_after_shift (value 8 xs) 256 (2 ^ 32) x refl (b.at 0 (omega arith)) small) (omega arith)
+  where
+    small : value 8 xs * 256 < 2 ^ 32
+    small = omega (arith, value_below 8 xs (below_tail b), pow_mono {i = 8 * length xs} {j = 24} (omega arith))
 
--- v is the number of candidate j's bytes from byte k on
-pub record Reading (stretch : List ℕ) (size j v k : ℕ) : Type 0 where
-  pub room : size * j + size ≤ length stretch
-  pub within : k ≤ size
-  pub is : v ≡ value 8 (drop k (take size (drop (size * j) stretch)))
+-- piece j of those that a stretch is cut into
+chunk_at : (size m j : ℕ) (stretch : List ℕ) (d : List ℕ) → j < m → get_or (first_chunks size m stretch) j d ≡ take size (drop (size * j) stretch)
+chunk_at size zero j stretch d h = absurd (omega arith)
+chunk_at size (suc m) zero stretch d h = ap (λ (k : ℕ). take size (drop k stretch)) (sym (mul-zero size))
+chunk_at size (suc m) (suc j) stretch d h =
+    chunk_at size m j (drop size stretch) d (omega arith)
+    ∙ ap (take size) (drop-drop (size * j) size stretch ∙ ap (λ (k : ℕ). drop k stretch) (add_comm size (size * j) ∙ sym (mul-suc size j)))
 
-module _ {stretch : List ℕ} {size j : ℕ} where
-  pub reading_none : j < held size stretch → Reading stretch size j 0 size
-  unfolding value
-  reading_none h =
-      record {
-        room = room;
-        within = le_refl size;
-        is = rw (drop_of_length-le (take size (drop (size * j) stretch)) (le_of_eq (part_length (size * j) size stretch room)));
-      }
-    where
-      room : size * j + size ≤ length stretch
-      room = held_room size j stretch h
+-- its bytes, as a loop over the pieces has them, and the candidate that they are
+module _ (size : ℕ) {m j : ℕ} (stretch : List ℕ) {bytes : List ℕ} (d : List ℕ) {pieces : List (List ℕ)} (at : bytes ≡ get_or pieces j d) (cut : pieces ≡ first_chunks size m stretch)
+    (inside : j < length pieces) (many : length pieces ≡ m) where
+  pub chunk_bytes : bytes ≡ take size (drop (size * j) stretch)
+  chunk_bytes = at ∙ ap (λ (ps : List (List ℕ)). get_or ps j d) cut ∙ chunk_at size m j stretch d (omega arith)
 
-  module _ {v k : ℕ} (r : Reading stretch size j v k) where
-    pub reading_more : {more fewer : ℕ} → fewer + 1 ≡ k → more ≡ v * 256 + get_or stretch (size * j + fewer) 0 → Reading stretch size j more fewer
-    reading_more {more} {fewer} e f =
-        record {
-          room = r.room;
-          within = omega (arith, r.within);
-          is =
-              f ∙ rw (
-                value_drop 8 fewer (take size (drop (size * j) stretch)),
-                part_at (size * j) size fewer stretch 0 (omega (arith, r.within)),
-                e,
-                ← r.is,
-              )
-              (omega arith);
-        }
-
-    -- 4 bytes at most
-    pub reading_small : size ≤ 4 → Below 256 stretch → v < 2 ^ 32
-    reading_small h b =
-        rw r.is
-        (lt_of_lt_of_le (value_below 8 (drop k bytes) (below_drop 256 k bytes (below_part 256 (size * j) size stretch b)))
-        (pow_mono {j = 32} (omega (arith, length-drop k bytes, part_length (size * j) size stretch r.room))))
-      where
-        bytes : List ℕ
-        bytes = take size (drop (size * j) stretch)
-
-    pub reading_all : {low : ℕ} (bits : ℕ) → low ≡ v % 2 ^ bits → k ≤ 0 → low ≡ piece size stretch j % 2 ^ bits
-    reading_all bits e h = e ∙ rw (r.is, none)
-      where
-        none : k ≡ 0
-        none = omega arith
+  pub candidate_is : {c : ℕ} (bits : ℕ) → c ≡ value 8 bytes % 2 ^ bits → c ≡ piece size stretch j % 2 ^ bits
+  candidate_is bits e = e ∙ ap (λ (bytes : List ℕ). value 8 bytes % 2 ^ bits) chunk_bytes

@@ -1,60 +1,40 @@
 -- The steps of drawing from a sponge, a stretch at a time.
---     filled              a buffer whose first bytes are squeezed
+--     filled              the first bytes of a buffer, squeezed
 --     squeezing_..        a loop over stretches: what stands in the output and what is still to come are together all
 --     gathering_..        the same for positions with signs
---     .._asks             what the reader of a stretch is asked
 -- Assumes nothing.
-use mathlib.Core.Path.{◌≡◌, refl, sym, ap, ◌∙◌}
+use mathlib.Core.Path.{◌≡◌, sym, ap, ◌∙◌}
 use mathlib.Core.List.{List, [], ◌++◌, map, append-nil, append_assoc}
-use Prim.Native.Nat.{ℕ, ◌+◌, ◌-◌, ◌*◌, ◌/◌, ◌%◌, ◌^◌, ◌≤◌, ◌<◌, zero-le}
-use native.Mathlib.Nat.{mul-add, mul-mod_right, mul-div_right, sub-zero}
+use Prim.Native.Nat.{ℕ, ◌+◌, ◌-◌, ◌*◌, ◌/◌, ◌%◌, ◌≤◌, ◌<◌}
+use native.Mathlib.Nat.{mul-add, mul-mod_right, mul-div_right}
 use native.Mathlib.Omega.{arith}
 use lib.IntN.{ℤ}
-use lib.ListN.{length, take, drop, length-drop, length-append, length-map}
-use lib.Seq.{take_at, length-take-le}
+use lib.ListN.{length, take, length-map}
+use lib.Seq.{length-take-le}
 use Rattle.shake.specs.declared.Sponge.{Sponge}
 use Rattle.shake.specs.Sponge.{squeezed, after_squeeze}
 use Rattle.shake.specs.Pieces.{squeezed_add, length_squeezed}
-use Rattle.sampling.specs.Candidates.{held, candidates}
+use Rattle.sampling.specs.Candidates.{candidates}
 use Rattle.sampling.specs.CandidatesLaws.{candidates_length, candidates_append}
-use Rattle.sampling.specs.Values.{values, less_of}
+use Rattle.sampling.specs.Values.{values}
 use Rattle.sampling.specs.ValuesLaws.{part_none, part_most, part_short, part_enough, values_part, values_append}
 use Rattle.sampling.specs.Stretches.{part, part_positions}
-use Rattle.sampling.specs.Stored.{Stored, stored_none, stored_append, stored_length, stored_front, stored_whole, StoredDrawn, stored_drawn_none, stored_drawn_append}
-use Rattle.sampling.specs.Positions.{Drawn, positions, places_of, positions_of, signs_of, drawn_candidates, AreDrawn}
-use Rattle.sampling.specs.Asks.{ValuesStretch, Less, LessStretch, Placing, PositionsStretch}
+use Rattle.sampling.specs.Stored.{Stored, stored_append, stored_length, stored_front, stored_whole, StoredDrawn, stored_drawn_append}
+use Rattle.sampling.specs.Positions.{Drawn, positions, positions_of, signs_of, drawn_candidates, AreDrawn}
 use Rattle.sampling.specs.PositionsLaws.{part_positions_none, part_positions_most, part_positions_enough, positions_part, positions_append, drawn_length, drawn_append}
 use Rattle.sampling.proofs.ValueSteps.{Kept}
 
--- ---- a buffer whose first n bytes are squeezed
+-- ---- the first n bytes of a buffer, squeezed
 
--- `bytes` are squeezed from s, which is r then, over the first n bytes of the buffer
-pub record Filled (n : ℕ) (buffer bytes : List ℕ) (s r : Sponge) : Type 0 where
+-- `bytes` are squeezed from s, which is r then
+pub record Filled (n : ℕ) (bytes : List ℕ) (s r : Sponge) : Type 0 where
   pub state : r ≡ after_squeeze n s
-  pub first : take n (bytes ++ drop n buffer) ≡ squeezed n s
-  pub cut : n ≡ length (take n (bytes ++ drop n buffer))
-  pub long : length (bytes ++ drop n buffer) ≡ length buffer
+  pub is : bytes ≡ squeezed n s
 
-pub filled : (n : ℕ) {buffer bytes : List ℕ} (s : Sponge) {r : Sponge} → n ≤ length buffer → r ≡ after_squeeze (length (take n buffer)) s
-    → bytes ≡ squeezed (length (take n buffer)) s → Filled n buffer bytes s r
-filled n {buffer} {bytes} s room e f =
-    record {
-      state = e ∙ ap (λ (m : ℕ). after_squeeze m s) lent;
-      first = first;
-      cut = sym (ap length first ∙ length_squeezed n s);
-      long = rw (f, lent, length-append (squeezed n s) (drop n buffer), length_squeezed n s) (omega (arith, length-drop n buffer));
-    }
-  where
-    lent : length (take n buffer) ≡ n
-    lent = length-take-le n buffer room
-
-    first : take n (bytes ++ drop n buffer) ≡ squeezed n s
-    first = rw (f, lent) (take_at (squeezed n s) (drop n buffer) n (length_squeezed n s))
-
--- k candidates are held there
-filled_many : (size k : ℕ) {buffer bytes : List ℕ} {s r : Sponge} → 0 < size → Filled (size * k) buffer bytes s r
-    → held size (take (size * k) (bytes ++ drop (size * k) buffer)) ≡ k
-filled_many size k h f = ap (λ (n : ℕ). n / size) (sym f.cut) ∙ mul-div_right k h
+pub filled : (n : ℕ) (buffer : List ℕ) (s : Sponge) {bytes : List ℕ} {r : Sponge} → n ≤ length buffer → r ≡ after_squeeze (length (take n buffer)) s
+    → bytes ≡ squeezed (length (take n buffer)) s → Filled n bytes s r
+filled n buffer s room e f =
+    record { state = rw (length-take-le n buffer room) at e; is = rw (length-take-le n buffer room) at f }
 
 -- ---- the candidates that a sponge gives
 
@@ -94,7 +74,7 @@ values_none range cs = values_part range 0 cs ∙ part_none range 0 cs
 -- What stands in the output before `at`, and what the `left` candidates to come give of the `need` values needed, are together all. At first
 -- `most` candidates are to come and `total` values are needed.
 pub record Squeezing {A : Type 0} (g : List ℕ → List A) (size bits range : ℕ) (all old : List A) (most total : ℕ) (out : List A) (sponge : Sponge)
-    (buffer : List ℕ) (left need at : ℕ) : Type 0 where
+    (left need at : ℕ) : Type 0 where
   pub kept : Kept g
   pub some : 0 < size
   pub done : List A
@@ -105,31 +85,13 @@ pub record Squeezing {A : Type 0} (g : List ℕ → List A) (size bits range : �
   pub still : at + need ≡ total
   pub within : at ≤ length old
   pub long : length out ≡ length old
-  pub room : length buffer ≡ 408
 
 module _ {A : Type 0} {g : List ℕ → List A} {size bits range : ℕ} where
-  pub squeezing_none : {old : List A} {sponge : Sponge} {buffer : List ℕ} {left need total : ℕ} → Kept g → 0 < size → need ≤ left → need ≡ total → length buffer ≡ 408
-      → Squeezing g size bits range (g (values range total (candidates size bits (squeezed (size * left) sponge)))) old left total old sponge buffer left need 0
-  squeezing_none {old} {sponge} {buffer} {left} kept some h e room =
-      record {
-        kept = kept;
-        some = some;
-        done = [];
-        stored = stored_none old refl;
-        rest = ap (λ (m : ℕ). g (values range m (candidates size bits (squeezed (size * left) sponge)))) e;
-        enough = h;
-        few = omega arith;
-        still = omega arith;
-        within = zero-le;
-        long = refl;
-        room = room;
-      }
-
-  module _ {all old out : List A} {most total : ℕ} {sponge : Sponge} {buffer : List ℕ} {left need at : ℕ}
-      (d : Squeezing g size bits range all old most total out sponge buffer left need at) where
+  module _ {all old out : List A} {most total : ℕ} {sponge : Sponge} {left need at : ℕ}
+      (d : Squeezing g size bits range all old most total out sponge left need at) where
     -- the next k candidates, of which no more are taken than are needed, nor than there are
-    module _ (k m : ℕ) {bytes : List ℕ} {after : Sponge} {last : List A} {next : ℕ} (f : Filled (size * k) buffer bytes sponge after) (e : m ≡ need) (h : k ≤ left)
-        (s : Stored (g (part range m (left - k) (candidates size bits (take (size * k) (bytes ++ drop (size * k) buffer))))) out at last next) where
+    module _ (k m : ℕ) {bytes : List ℕ} {after : Sponge} {last : List A} {next : ℕ} (f : Filled (size * k) bytes sponge after) (e : m ≡ need) (h : k ≤ left)
+        (s : Stored (g (part range m (left - k) (candidates size bits bytes))) out at last next) where
       abbrev cs : List ℕ
       cs = candidates size bits (squeezed (size * k) sponge)
 
@@ -137,7 +99,7 @@ module _ {A : Type 0} {g : List ℕ → List A} {size bits range : ℕ} where
       new = part range need (left - k) cs
 
       taken : Stored (g new) out at last next
-      taken = rw (f.first, e) at s
+      taken = rw (f.is, e) at s
 
       next_is : next ≡ at + length new
       next_is = taken.next_is ∙ ap (λ (n : ℕ). at + n) (d.kept.long new)
@@ -147,7 +109,7 @@ module _ {A : Type 0} {g : List ℕ → List A} {size bits range : ℕ} where
           omega (arith, next_is, part_most range need (left - k) cs, part_short range need (left - k) cs, squeezed_many size bits k sponge d.some)
 
       pub squeezing_more : {fewer : ℕ} → at + need ≡ next + fewer → next ≤ length old
-          → Squeezing g size bits range all old most total last after (bytes ++ drop (size * k) buffer) (left - k) fewer next
+          → Squeezing g size bits range all old most total last after (left - k) fewer next
       squeezing_more {fewer} c l =
           record {
             kept = d.kept;
@@ -166,7 +128,6 @@ module _ {A : Type 0} {g : List ℕ → List A} {size bits range : ℕ} where
             still = omega (arith, d.still);
             within = l;
             long = stored_length taken ∙ d.long;
-            room = f.long ∙ d.room;
           }
         where
           whole : k + (left - k) ≡ left
@@ -193,28 +154,6 @@ module _ {A : Type 0} {g : List ℕ → List A} {size bits range : ℕ} where
 
         none : need ≡ 0
         none = omega (arith, d.still, d.within)
-
--- what the reader of the next k candidates is asked
-pub less_asks : {all : List ℤ} {b bits most total left need at k : ℕ} {old out : List ℤ} {sponge after : Sponge} {buffer bytes : List ℕ} → Less bits b
-    → Squeezing (map (less_of b)) 3 bits (2 * b + 1) all old most total out sponge buffer left need at → Filled (3 * k) buffer bytes sponge after
-    → k ≤ left → most < 2 ^ 64 → LessStretch bits b (left - k) (take (3 * k) (bytes ++ drop (3 * k) buffer)) (length out) at
-less_asks {k = k} less d f h l =
-    record {
-      less = less;
-      fits = omega (arith, filled_many 3 k (omega arith) f, d.few);
-      within = omega (arith, d.within, d.long);
-    }
-
-pub values_asks : {all : List ℕ} {bits range most total left need at k : ℕ} {old out : List ℕ} {sponge after : Sponge} {buffer bytes : List ℕ} → bits ≤ 32
-    → Squeezing (λ (vs : List ℕ). vs) 4 bits range all old most total out sponge buffer left need at → Filled (4 * k) buffer bytes sponge after
-    → k ≤ left → k ≤ length old - at → most < 2 ^ 64
-    → ValuesStretch bits (left - k) need (take (4 * k) (bytes ++ drop (4 * k) buffer)) (length out) at
-values_asks {k = k} narrow d f h r l =
-    record {
-      narrow = narrow;
-      fits = omega (arith, filled_many 4 k (omega arith) f, d.few);
-      room = omega (arith, filled_many 4 k (omega arith) f, d.within, d.long);
-    }
 
 -- ---- positions with signs
 
@@ -252,7 +191,7 @@ positions_none : (n : ℕ) (ps : List ℕ) (cs : List Drawn) → positions n 0 p
 positions_none n ps cs = positions_part n 0 ps cs ∙ part_positions_none n 0 ps cs
 
 -- what stands in the outputs before `at`, and what the `left` candidates to come give, are together all
-pub record Gathering (n bits : ℕ) (all : List Drawn) (places : List ℕ) (signs : List ℤ) (out : List ℕ) (marks : List ℤ) (sponge : Sponge) (buffer : List ℕ) (left at : ℕ) : Type 0 where
+pub record Gathering (n bits : ℕ) (all : List Drawn) (places : List ℕ) (signs : List ℤ) (out : List ℕ) (marks : List ℤ) (sponge : Sponge) (left at : ℕ) : Type 0 where
   pub done : List Drawn
   pub stored : StoredDrawn done places signs 0 out marks at
   pub rest : done ++ positions n (length places - at) (take at out) (drawn_candidates bits (squeezed (3 * left) sponge)) ≡ all
@@ -261,41 +200,15 @@ pub record Gathering (n bits : ℕ) (all : List Drawn) (places : List ℕ) (sign
   pub within : at ≤ length places
   pub long : length out ≡ length places
   pub marked : length marks ≡ length signs
-  pub room : length buffer ≡ 408
 
 module _ {n bits : ℕ} where
-  pub gathering_none : {places : List ℕ} {signs : List ℤ} {sponge : Sponge} {buffer : List ℕ} → length places ≤ 256 → length buffer ≡ 408
-      → Gathering n bits (places_of n bits (length places) (squeezed (3 * 256) sponge)) places signs places signs sponge buffer 256 0
-  gathering_none {places} {signs} {sponge} h room =
-      record {
-        done = [];
-        stored = stored_drawn_none places signs refl;
-        rest = ap (λ (m : ℕ). positions n m [] (drawn_candidates bits (squeezed (3 * 256) sponge))) (sub-zero (length places));
-        enough = omega arith;
-        few = omega arith;
-        within = zero-le;
-        long = refl;
-        marked = refl;
-        room = room;
-      }
-
-  module _ {all : List Drawn} {places : List ℕ} {signs : List ℤ} {out : List ℕ} {marks : List ℤ} {sponge : Sponge} {buffer : List ℕ} {left at : ℕ}
-      (d : Gathering n bits all places signs out marks sponge buffer left at) where
-    module _ (k : ℕ) {bytes : List ℕ} {after : Sponge} (f : Filled (3 * k) buffer bytes sponge after) (h : k ≤ left) where
-      -- what their reader is asked
-      pub positions_asks : Placing n bits (length places) (length signs)
-          → PositionsStretch n bits (left - k) (take (3 * k) (bytes ++ drop (3 * k) buffer)) (length out) (length marks) at
-      positions_asks p =
-          record {
-            placing = record { power = p.power; fits = p.fits; paired = d.marked ∙ p.paired ∙ sym d.long };
-            fits = omega (arith, filled_many 3 k (omega arith) f, d.few);
-            within = omega (arith, d.within, d.long);
-          }
-
+  module _ {all : List Drawn} {places : List ℕ} {signs : List ℤ} {out : List ℕ} {marks : List ℤ} {sponge : Sponge} {left at : ℕ}
+      (d : Gathering n bits all places signs out marks sponge left at) where
+    module _ (k : ℕ) {bytes : List ℕ} {after : Sponge} (f : Filled (3 * k) bytes sponge after) (h : k ≤ left) where
       -- the next k candidates
       pub gathering_more : {last : List ℕ} {ends : List ℤ} {next : ℕ}
-          → StoredDrawn (part_positions n (length out - at) (left - k) (take at out) (drawn_candidates bits (take (3 * k) (bytes ++ drop (3 * k) buffer)))) out marks at last ends next
-          → Gathering n bits all places signs last ends after (bytes ++ drop (3 * k) buffer) (left - k) next
+          → StoredDrawn (part_positions n (length out - at) (left - k) (take at out) (drawn_candidates bits bytes)) out marks at last ends next
+          → Gathering n bits all places signs last ends after (left - k) next
       gathering_more {last} {ends} {next} t =
           record {
             done = d.done ++ new;
@@ -309,7 +222,6 @@ module _ {n bits : ℕ} where
             within = omega (arith, near, d.long);
             long = stored_length s.places ∙ d.long;
             marked = stored_length s.marks ∙ d.marked;
-            room = f.long ∙ d.room;
           }
         where
           cs : List Drawn
@@ -319,7 +231,7 @@ module _ {n bits : ℕ} where
           new = part_positions n (length out - at) (left - k) (take at out) cs
 
           s : StoredDrawn new out marks at last ends next
-          s = rw f.first at t
+          s = rw f.is at t
 
           whole : k + (left - k) ≡ left
           whole = omega arith

@@ -7,55 +7,43 @@ use mathlib.Core.Bool.{Bool, true, false, ◌||◌}
 use lib.Dec.{eqb}
 use mathlib.Core.List.{List, [], ◌∷◌, ◌++◌, append-nil}
 use Prim.Native.Nat.{ℕ, zero, suc, ◌+◌, ◌-◌, ◌*◌, ◌/◌, ◌%◌, ◌^◌, ◌≤◌, ◌<◌}
-use native.Mathlib.Nat.{zero-add, le_of_eq, mod_self, mod-lt, mod-eq_of_lt}
+use native.Mathlib.Nat.{zero-add, mod_self, mod-lt, mod-eq_of_lt}
 use native.Mathlib.Numerals.{add-one}
 use native.Mathlib.Omega.{arith}
-use lib.IntN.{ℤ, pos, negsuc}
-use lib.ListN.{length, get_or, take, drop, set, take-append-drop, length-drop, length-map, drop_of_length-le}
+use lib.IntN.{ℤ}
+use lib.ListN.{length, get_or, take, drop, set, take-append-drop, length-drop, length-map}
 use lib.Seq.{take-suc, take_all}
-use lib.Pow.{pow_pos, pow_mono}
-use borrow.Author.Tests.{eq-eqb, ne_eqb}
 use Rattle.std.specs.List.{list_any}
 use Rattle.std.proofs.lemmas.Cmp.{nat_eq_equiv}
 use Rattle.whole.specs.Int.{lt_or_le, less_one}
 use Rattle.whole.specs.Below.{Below}
-use Rattle.whole.specs.Parts.{part_length, part_at}
+use Rattle.whole.specs.BelowLaws.{below_part}
+use Rattle.whole.specs.Parts.{part_length}
 use Rattle.packing.specs.Digits.{value}
-use Rattle.packing.specs.Laws.{value_drop}
 use Rattle.sampling.specs.Candidates.{held, piece}
 use Rattle.sampling.specs.Positions.{Drawn, is_in, free, sign_of, positions_of, drawn_candidates}
 use Rattle.sampling.specs.Promises.{Upward}
-use Rattle.sampling.specs.FreeLaws.{free_inside, free_here}
+use Rattle.sampling.specs.FreeLaws.{free_here}
 use Rattle.sampling.specs.Stored.{StoredDrawn, stored_length, stored_front, stored_drawn_none, stored_drawn_one, stored_drawn_append}
 use Rattle.sampling.specs.PositionsLaws.{part_positions_none, part_positions_fresh, part_positions_repeated, part_positions_moved, part_positions_most, part_positions_append, drawn_length, drawn_at}
 use Rattle.sampling.specs.Stretches.{drawn_as, part_positions, placed}
-use Rattle.sampling.proofs.CandidateSteps.{held_room}
 
 -- ---- the sign
 
--- the third byte alone
-third : (stretch : List ℕ) (j : ℕ) → j < held 3 stretch → Below 256 stretch → piece 3 stretch j / 65536 ≡ get_or stretch (3 * j + 2) 0
+-- of three bytes the third alone
+third : (bytes : List ℕ) → length bytes ≡ 3 → Below 256 bytes → get_or bytes 2 0 ≡ value 8 bytes / 65536
 unfolding value
-third stretch j h b = omega (arith, value_drop 8 0 bytes, value_drop 8 1 bytes, value_drop 8 2 bytes, nothing, byte 0 (omega arith), byte 1 (omega arith), byte 2 (omega arith), b.at (3 * j + 0) (omega (arith, room)), b.at (3 * j + 1) (omega (arith, room)))
-  where
-    bytes : List ℕ
-    bytes = take 3 (drop (3 * j) stretch)
+third [] l b = absurd (omega arith)
+third (x ∷ []) l b = absurd (omega arith)
+third (x ∷ y ∷ []) l b = absurd (omega arith)
+third (x ∷ y ∷ z ∷ []) l b = omega (arith, b.at 0 (omega arith), b.at 1 (omega arith))
+third (x ∷ y ∷ z ∷ u ∷ us) l b = absurd (omega arith)
 
-    room : 3 * j + 3 ≤ length stretch
-    room = held_room 3 j stretch h
-
-    byte : (k : ℕ) → k < 3 → get_or bytes k 0 ≡ get_or stretch (3 * j + k) 0
-    byte k l = part_at (3 * j) 3 k stretch 0 l
-
-    nothing : value 8 (drop 3 bytes) ≡ 0
-    nothing = rw (drop_of_length-le bytes (le_of_eq (part_length (3 * j) 3 stretch room)))
-
-module _ (stretch : List ℕ) (j : ℕ) (h : j < held 3 stretch) (b : Below 256 stretch) where
-  pub sign_set : get_or stretch (3 * j + 2) 0 % 2 ≡ 1 → negsuc 0 ≡ sign_of (piece 3 stretch j / 65536)
-  sign_set e = rw (third stretch j h b, eq-eqb (get_or stretch (3 * j + 2) 0 % 2) 1 e)
-
-  pub sign_clear : (get_or stretch (3 * j + 2) 0 % 2 ≡ 1 → ⊥) → pos 1 ≡ sign_of (piece 3 stretch j / 65536)
-  sign_clear e = rw (third stretch j h b, ne_eqb (get_or stretch (3 * j + 2) 0 % 2) 1 e)
+-- gives it
+pub sign_is : (s : ℤ) {bytes : List ℕ} (j : ℕ) (stretch : List ℕ) → bytes ≡ take 3 (drop (3 * j) stretch) → j < held 3 stretch → Below 256 stretch
+    → s ≡ sign_of (get_or bytes 2 0) → s ≡ sign_of (piece 3 stretch j / 65536)
+sign_is s j stretch f h b e =
+    rw f at e ∙ ap sign_of (third (take 3 (drop (3 * j) stretch)) (part_length (3 * j) 3 stretch (omega arith)) (below_part 256 (3 * j) 3 stretch b))
 
 -- ---- among positions
 
@@ -108,45 +96,24 @@ module _ {n p : ℕ} {ps : List ℕ} {at i : ℕ} (f : Freeing n p ps at i) wher
   pub freeing_out : n ≤ i → at ≡ free n n p ps
   freeing_out h = sym (free_none n (n - i) at ps (omega arith)) ∙ f.same
 
--- it fits two bytes
-pub free_fits : {r : ℕ} (n p : ℕ) (ps : List ℕ) → r ≡ free n n p ps → p < n → n ≤ 65536 → r < 2 ^ 16
-free_fits n p ps e h l = omega (arith, free_inside n n p ps h)
-
 -- ---- one candidate, with `left` after it
 
-one_fresh : (n need left : ℕ) (ps : List ℕ) (c : Drawn) → 0 < need → is_in c.position ps ≡ false → part_positions n need left ps (c ∷ []) ≡ c ∷ []
+pub one_fresh : (n need left : ℕ) (ps : List ℕ) (c : Drawn) → 0 < need → is_in c.position ps ≡ false → part_positions n need left ps (c ∷ []) ≡ c ∷ []
 unfolding part_positions
 one_fresh n zero left ps c h e = absurd (omega arith)
 one_fresh n (suc need) left ps c h e = part_positions_fresh n need left ps c [] e
 
-one_moved : (n need left : ℕ) (ps : List ℕ) (c : Drawn) → 0 < need → is_in c.position ps ≡ true → left < need
+pub one_moved : (n need left : ℕ) (ps : List ℕ) (c : Drawn) → 0 < need → is_in c.position ps ≡ true → left < need
     → part_positions n need left ps (c ∷ []) ≡ placed n ps c ∷ []
 unfolding part_positions
 one_moved n zero left ps c h e l = absurd (omega arith)
 one_moved n (suc need) left ps c h e l = part_positions_moved n need left ps c [] e (rw (zero-add left) l)
 
-one_repeated : (n need left : ℕ) (ps : List ℕ) (c : Drawn) → 0 < need → is_in c.position ps ≡ true → need ≤ left
+pub one_repeated : (n need left : ℕ) (ps : List ℕ) (c : Drawn) → 0 < need → is_in c.position ps ≡ true → need ≤ left
     → part_positions n need left ps (c ∷ []) ≡ []
 unfolding part_positions
 one_repeated n zero left ps c h e l = absurd (omega arith)
 one_repeated n (suc need) left ps c h e l = part_positions_repeated n need left ps c [] e (rw (zero-add left) l)
-
--- and what is stored of it: `taken` says whether its position is among those before `at`
-module _ (n need left p : ℕ) (s : ℤ) {positions : List ℕ} {signs : List ℤ} {at next : ℕ} {taken : Bool} (e : taken ≡ is_in p (take at positions)) (some : 0 < need) where
-  pub position_fresh : {q : ℕ} {t : ℤ} → taken ≡ false → q ≡ p → t ≡ s → next ≡ at + 1
-      → StoredDrawn (part_positions n need left (take at positions) (drawn_as p s ∷ [])) positions signs at (set positions at q) (set signs at t) next
-  position_fresh b f g h =
-      rw (one_fresh n need left (take at positions) (drawn_as p s) some (sym e ∙ b)) (stored_drawn_one (drawn_as p s) f g h)
-
-  pub position_moved : {q : ℕ} {t : ℤ} → taken ≡ true → left < need → q ≡ free n n p (take at positions) → t ≡ s → next ≡ at + 1
-      → StoredDrawn (part_positions n need left (take at positions) (drawn_as p s ∷ [])) positions signs at (set positions at q) (set signs at t) next
-  position_moved b l f g h =
-      rw (one_moved n need left (take at positions) (drawn_as p s) some (sym e ∙ b) l) (stored_drawn_one (placed n (take at positions) (drawn_as p s)) f g h)
-
-  pub position_passed : taken ≡ true → need ≤ left → next ≡ at
-      → StoredDrawn (part_positions n need left (take at positions) (drawn_as p s ∷ [])) positions signs at positions signs next
-  position_passed b l h =
-      rw (one_repeated n need left (take at positions) (drawn_as p s) some (sym e ∙ b) l) (stored_drawn_none positions signs h)
 
 -- ---- a stretch
 
@@ -206,32 +173,28 @@ module _ (n need later : ℕ) (ps : List ℕ) (cs : List Drawn) where
 
 -- ---- a loop over the candidates of a stretch
 
--- a candidate of so many bits is a position below n, which fits two bytes
-pub candidate_inside : {c n : ℕ} (p bits : ℕ) → c ≡ p % 2 ^ bits → n ≡ 2 ^ bits → c < n
-candidate_inside p bits e f = omega (arith, mod-lt p (pow_pos bits))
-
-pub bits_few : {n : ℕ} (bits : ℕ) → n ≡ 2 ^ bits → bits ≤ 16 → n ≤ 65536
-bits_few bits e h =
-    let few : 2 ^ bits ≤ 2 ^ 16 = pow_mono h in
-    omega arith
-
--- what is taken of the first j candidates of a stretch is stored, where as many are needed as there are places from `at` on
-pub record Drawing (n bits later : ℕ) (stretch positions : List ℕ) (signs : List ℤ) (at : ℕ) (out : List ℕ) (marks : List ℤ) (next j : ℕ) : Type 0 where
+-- what is taken of the first j candidates of a stretch is stored, where as many are needed as there are places from `at` on, and `left`
+-- candidates follow
+pub record Drawing (n bits later : ℕ) (stretch positions : List ℕ) (signs : List ℤ) (at : ℕ) (out : List ℕ) (marks : List ℤ) (next left j : ℕ) : Type 0 where
   pub done : StoredDrawn (first_positions n (length positions - at) later (take at positions) (drawn_candidates bits stretch) j) positions signs at out marks next
   pub long : length out ≡ length positions
   pub marked : length marks ≡ length signs
+  pub from : at ≤ length positions
   pub within : next ≤ length positions
+  pub left_is : left + j ≡ held 3 stretch + later
 
 -- what is stored, and its counts
-drawing : (n bits later : ℕ) (stretch : List ℕ) {positions : List ℕ} {signs : List ℤ} {at : ℕ} {out : List ℕ} {marks : List ℤ} {next j : ℕ} → at ≤ length positions
+drawing : (n bits later : ℕ) (stretch : List ℕ) {positions : List ℕ} {signs : List ℤ} {at : ℕ} {out : List ℕ} {marks : List ℤ} {next left j : ℕ} → at ≤ length positions
     → StoredDrawn (first_positions n (length positions - at) later (take at positions) (drawn_candidates bits stretch) j) positions signs at out marks next
-    → Drawing n bits later stretch positions signs at out marks next j
-drawing n bits later stretch {positions} {signs} {at} {out} {marks} {next} {j} h s =
+    → left + j ≡ held 3 stretch + later → Drawing n bits later stretch positions signs at out marks next left j
+drawing n bits later stretch {positions} {signs} {at} {out} {marks} {next} {left} {j} h s l =
     record {
       done = s;
       long = stored_length s.places;
       marked = stored_length s.marks;
+      from = h;
       within = omega (arith, s.places.next_is, length-map new (λ (d : Drawn). d.position), first_positions_most n (length positions - at) later (take at positions) cs j);
+      left_is = l;
     }
   where
     cs : List Drawn
@@ -240,42 +203,59 @@ drawing n bits later stretch {positions} {signs} {at} {out} {marks} {next} {j} h
     new : List Drawn
     new = first_positions n (length positions - at) later (take at positions) cs j
 
-module _ {n bits later at : ℕ} {stretch positions : List ℕ} {signs : List ℤ} (from : at ≤ length positions) where
-  pub drawing_none : Drawing n bits later stretch positions signs at positions signs at 0
-  drawing_none =
+module _ {n bits later at : ℕ} {stretch positions : List ℕ} {signs : List ℤ} where
+  pub drawing_none : at ≤ length positions → Drawing n bits later stretch positions signs at positions signs at (held 3 stretch + later) 0
+  drawing_none from =
       drawing n bits later stretch from
       (rw (first_positions_none n (length positions - at) later (take at positions) (drawn_candidates bits stretch)) (stored_drawn_none positions signs refl))
+      (omega arith)
 
-  module _ {out : List ℕ} {marks : List ℤ} {next j : ℕ} (t : Drawing n bits later stretch positions signs at out marks next j) where
-    -- candidate j, with `left` after it, where `need` are still needed
-    pub drawing_more : {last : List ℕ} {ends : List ℤ} {after : ℕ} (left need p : ℕ) (s : ℤ)
-        → StoredDrawn (part_positions n need left (take next out) (drawn_as p s ∷ [])) out marks next last ends after
-        → p ≡ piece 3 stretch j % 2 ^ bits → s ≡ sign_of (piece 3 stretch j / 65536) → j < held 3 stretch → left ≡ held 3 stretch - (j + 1) + later
-        → need + next ≡ length positions → Drawing n bits later stretch positions signs at last ends after (j + 1)
-    drawing_more left need p s stored e f h l k =
-        drawing n bits later stretch from
-        (rw (first_positions_more n (length positions - at) later (take at positions) cs j left need (drawn_as p s) (take next out) (rw many h)
-        (ap₂ drawn_as e f ∙ sym (drawn_at bits stretch j (drawn_as p s) h)) (rw many l) (omega (arith, taken)) (stored_front t.done.places t.within))
-        (stored_drawn_append t.done stored))
-      where
-        cs : List Drawn
-        cs = drawn_candidates bits stretch
+  module _ {out : List ℕ} {marks : List ℤ} {next left j : ℕ} (t : Drawing n bits later stretch positions signs at out marks next left j) where
+    -- candidate j, of which `new` is taken
+    module _ (inside : j < held 3 stretch) (p : ℕ) (s : ℤ) (e : p ≡ piece 3 stretch j % 2 ^ bits) (f : s ≡ sign_of (piece 3 stretch j / 65536)) where
+      drawing_more : {last : List ℕ} {ends : List ℤ} {after : ℕ} {new : List Drawn}
+          → part_positions n (length out - next) (left - 1) (take next out) (drawn_as p s ∷ []) ≡ new → StoredDrawn new out marks next last ends after
+          → Drawing n bits later stretch positions signs at last ends after (left - 1) (j + 1)
+      drawing_more {new = new} g stored =
+          drawing n bits later stretch t.from
+          (rw (more, g) (stored_drawn_append t.done stored))
+          (omega (arith, t.left_is))
+        where
+          cs : List Drawn
+          cs = drawn_candidates bits stretch
 
-        new : List Drawn
-        new = first_positions n (length positions - at) later (take at positions) cs j
+          before : List Drawn
+          before = first_positions n (length positions - at) later (take at positions) cs j
 
-        many : length cs ≡ held 3 stretch
-        many = drawn_length bits stretch
+          many : length cs ≡ held 3 stretch
+          many = drawn_length bits stretch
 
-        taken : next ≡ at + length new
-        taken = t.done.places.next_is ∙ ap (λ (k : ℕ). at + k) (length-map new (λ (d : Drawn). d.position))
+          taken : next ≡ at + length before
+          taken = t.done.places.next_is ∙ ap (λ (k : ℕ). at + k) (length-map before (λ (d : Drawn). d.position))
+
+          more : first_positions n (length positions - at) later (take at positions) cs (j + 1)
+              ≡ before ++ part_positions n (length out - next) (left - 1) (take next out) (drawn_as p s ∷ [])
+          more =
+              first_positions_more n (length positions - at) later (take at positions) cs j (left - 1) (length out - next) (drawn_as p s) (take next out) (rw many inside)
+              (ap₂ drawn_as e f ∙ sym (drawn_at bits stretch j (drawn_as p s) inside)) (rw many (omega (arith, t.left_is))) (omega (arith, taken, t.within, t.long))
+              (stored_front t.done.places t.within)
+
+      -- which gets position q
+      pub drawing_one : (q : ℕ) → part_positions n (length out - next) (left - 1) (take next out) (drawn_as p s ∷ []) ≡ drawn_as q s ∷ []
+          → Drawing n bits later stretch positions signs at (set out next q) (set marks next s) (next + 1) (left - 1) (j + 1)
+      drawing_one q g = drawing_more g (stored_drawn_one (drawn_as q s) refl refl refl)
+
+      -- or is passed over
+      pub drawing_passed : part_positions n (length out - next) (left - 1) (take next out) (drawn_as p s ∷ []) ≡ []
+          → Drawing n bits later stretch positions signs at out marks next (left - 1) (j + 1)
+      drawing_passed g = drawing_more g (stored_drawn_none out marks refl)
 
     pub drawing_all : held 3 stretch ≤ j
         → StoredDrawn (part_positions n (length positions - at) later (take at positions) (drawn_candidates bits stretch)) positions signs at out marks next
     drawing_all h =
         rw (← first_positions_all n (length positions - at) later (take at positions) (drawn_candidates bits stretch) j (rw (drawn_length bits stretch) h)) t.done
 
-    pub drawing_full : length positions ≡ next
+    pub drawing_full : length positions ≤ next
         → StoredDrawn (part_positions n (length positions - at) later (take at positions) (drawn_candidates bits stretch)) positions signs at out marks next
     drawing_full h =
         rw (← first_positions_full n (length positions - at) later (take at positions) cs j

@@ -14,7 +14,6 @@ use Rattle.shake.specs.declared.Sponge.{Sponge}
 use Rattle.shake.specs.Sponge.{absorbed, squeezed}
 use Rattle.sets.specs.declared.Numbers.{Numbers}
 use Rattle.sets.specs.Good.{Good}
-use Rattle.sets.specs.GoodLaws.{y_small}
 use Rattle.sets.specs.Limits.{seed_bytes, digest_bytes}
 use Rattle.sets.specs.Marks.{fresh}
 use Rattle.sampling.specs.Candidates.{candidates}
@@ -23,7 +22,6 @@ use Rattle.sampling.specs.Positions.{places_of, AreDrawn}
 use Rattle.sampling.specs.Streams.{two_bytes, y_of, rand_of, message_digest, key_digest, enc_of}
 use Rattle.sampling.specs.SpongeLaws.{stream_squeezed, two_pieces, three_squeezed}
 use Rattle.sampling.specs.TwoBytesLaws.{two_below}
-use Rattle.sampling.specs.Asks.{Less}
 use Rattle.sampling.specs.Promises.{ClosesMessage}
 
 -- ---- G of a message
@@ -67,10 +65,6 @@ pub y_started : (digit counter : ℕ) (rand : List ℕ) {s₀ s₁ s₂ : Sponge
 y_started digit counter rand e first low_first second = two_pieces (fresh digit 2) rand (two_bytes counter) (rw e at first) (rw low_first at second)
 
 module _ {set : Numbers} (good : Good set) where
-  -- a value for y less b
-  pub y_less : Less set.z_bits set.b
-  y_less = record { narrow = omega (arith, good.y_bytes); small = omega (arith, y_small good); once = good.y_once }
-
   pub y_drawn : {state : Sponge} {rand : List ℕ} {out : List ℤ} (counter places : ℕ) → state ≡ absorbed (fresh set.digit 2) (rand ++ two_bytes counter)
       → out ≡ map (less_of set.b) (values (2 * set.b + 1) places (candidates 3 set.z_bits (squeezed (3 * (2 * places)) state)))
       → places ≡ set.n → Below 256 rand → out ≡ y_of set rand counter

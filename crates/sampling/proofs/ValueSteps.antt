@@ -2,18 +2,16 @@
 -- Assumes nothing.
 use mathlib.Core.Path.{◌≡◌, refl, sym, ap, ◌∙◌}
 use mathlib.Core.List.{List, [], ◌∷◌, ◌++◌, map, map-append, append-nil}
-use Prim.Native.Nat.{ℕ, zero, suc, ◌+◌, ◌-◌, ◌*◌, ◌%◌, ◌^◌, ◌≤◌, ◌<◌}
-use native.Mathlib.Nat.{zero-add, mod-lt}
+use Prim.Native.Nat.{ℕ, zero, suc, min, ◌+◌, ◌-◌, ◌%◌, ◌^◌, ◌≤◌, ◌<◌}
+use native.Mathlib.Nat.{zero-add}
 use native.Mathlib.Numerals.{add-one}
 use native.Mathlib.Omega.{arith}
-use lib.IntN.{ℤ}
-use lib.ListN.{length, get_or, take, drop, set, take-append-drop, length-take, length-drop, length-map}
+use lib.ListN.{length, get_or, take, drop, set, take-append-drop, length-drop, length-map, length-append, length-set}
 use lib.Seq.{take-suc, take_all}
-use lib.Pow.{pow_pos}
 use Rattle.sampling.specs.Candidates.{held, piece, candidates}
 use Rattle.sampling.specs.CandidatesLaws.{candidates_length, candidates_at}
-use Rattle.sampling.specs.Stored.{Stored, stored_none, stored_one, stored_append, stored_length}
-use Rattle.sampling.specs.ValuesLaws.{part_none, part_most, part_short, part_in, part_skip, part_last, part_append}
+use Rattle.sampling.specs.Stored.{Stored, stored_none, stored_one, stored_append}
+use Rattle.sampling.specs.ValuesLaws.{part_none, part_in, part_skip, part_last, part_append}
 use Rattle.sampling.specs.Stretches.{part}
 use Rattle.sampling.specs.Values.{less_of}
 
@@ -34,15 +32,6 @@ unfolding part
 one_skip range zero left c h l m = absurd (omega arith)
 one_skip range (suc need) left c h l m = part_skip range need left c [] l (rw (zero-add left) m)
 
--- and what is stored of it, less b
-module _ (b need left c : ℕ) {old : List ℤ} {at next : ℕ} {v : ℤ} (some : 0 < need) where
-  pub less_in : c < 2 * b + 1 → v ≡ less_of b c → next ≡ at + 1 → Stored (map (less_of b) (part (2 * b + 1) need left (c ∷ []))) old at (set old at v) next
-  less_in h e f = rw (one_in (2 * b + 1) need left c some h) (stored_one e f)
-
-  pub less_last : 2 * b + 1 ≤ c → left < need → v ≡ less_of b (c - (2 * b + 1)) → next ≡ at + 1
-      → Stored (map (less_of b) (part (2 * b + 1) need left (c ∷ []))) old at (set old at v) next
-  less_last h l e f = rw (one_last (2 * b + 1) need left c some h l) (stored_one e f)
-
 -- ---- a stretch
 
 module _ (range need later : ℕ) (cs : List ℕ) where
@@ -53,14 +42,6 @@ module _ (range need later : ℕ) (cs : List ℕ) where
   pub first_none : first 0 ≡ []
   unfolding part first
   first_none = refl
-
-  first_most : (j : ℕ) → length (first j) ≤ need
-  unfolding first
-  first_most j = part_most range need (length cs - j + later) (take j cs)
-
-  first_short : (j : ℕ) → length (first j) ≤ j
-  unfolding first
-  first_short j = omega (arith, part_short range need (length cs - j + later) (take j cs), length-take j cs)
 
   -- candidate j after them, with `left` after it, where m are still needed
   pub first_more : (j c left m : ℕ) → j < length cs → c ≡ get_or cs j 0 → left ≡ length cs - (j + 1) + later → m + length (first j) ≡ need
@@ -98,7 +79,7 @@ module _ (range need later : ℕ) (cs : List ℕ) where
 
 -- ---- a loop over the candidates of a stretch
 
--- what is stored of values: the values themselves, or each less b
+-- what is stored of several values: the values themselves, or each less b
 pub record Kept {A : Type 0} (g : List ℕ → List A) : Type 0 where
   pub none : g [] ≡ []
   pub append : (xs ys : List ℕ) → g (xs ++ ys) ≡ g xs ++ g ys
@@ -110,52 +91,46 @@ kept_values = record { none = refl; append = λ xs ys. refl; long = λ xs. refl 
 pub kept_less : (b : ℕ) → Kept (map (less_of b))
 kept_less b = record { none = refl; append = λ xs ys. map-append (less_of b) xs ys; long = λ xs. length-map xs (less_of b) }
 
--- a candidate of so many bits, where they count to 2(2b + 1) at most
-pub candidate_once : {c : ℕ} (b p bits : ℕ) → c ≡ p % 2 ^ bits → 2 ^ bits ≤ 2 * (2 * b + 1) → c < 2 * (2 * b + 1)
-candidate_once b p bits e h = omega (arith, mod-lt p (pow_pos bits))
-
--- what is taken of the first j candidates of a stretch is stored, where `need` values are needed of them and of the `later` ones
-pub record Taking {A : Type 0} (g : List ℕ → List A) (range need later size bits : ℕ) (stretch : List ℕ) (old : List A) (at : ℕ) (out : List A) (next j : ℕ) : Type 0 where
-  pub kept : Kept g
-  pub done : Stored (g (first range need later (candidates size bits stretch) j)) old at out next
+-- what is taken of the first j candidates of a stretch is stored, each value as g has it, for any g that `Is` holds of. `need` values are
+-- needed of them and of the `later` ones: `still` of them are needed yet, and `left` candidates follow
+pub record Taking {A : Type 0} (Is : (ℕ → A) → Type 0) (range need later size bits : ℕ) (stretch : List ℕ) (old : List A) (at : ℕ) (out : List A) (next still left j : ℕ) : Type 0 where
+  pub done : (g : ℕ → A) → Is g → Stored (map g (first range need later (candidates size bits stretch) j)) old at out next
   pub long : length out ≡ length old
-  pub from : at ≤ next
-  pub most : next ≤ at + need
-  pub short : next ≤ at + j
+  pub next_is : next ≡ at + length (first range need later (candidates size bits stretch) j)
+  pub still_is : still + length (first range need later (candidates size bits stretch) j) ≡ need
+  pub left_is : left + j ≡ held size stretch + later
+  pub room : next + min still (held size stretch - j) ≤ length old
 
--- what is stored, and its counts
-taking : {A : Type 0} {g : List ℕ → List A} → Kept g → (range need later size bits : ℕ) (stretch : List ℕ) {old : List A} {at : ℕ} {out : List A} {next j : ℕ}
-    → Stored (g (first range need later (candidates size bits stretch) j)) old at out next → Taking g range need later size bits stretch old at out next j
-taking kept range need later size bits stretch {j = j} s =
-    record {
-      kept = kept;
-      done = s;
-      long = stored_length s;
-      from = omega (arith, s.next_is);
-      most = omega (arith, s.next_is, kept.long (first range need later cs j), first_most range need later cs j);
-      short = omega (arith, s.next_is, kept.long (first range need later cs j), first_short range need later cs j);
-    }
-  where
-    cs : List ℕ
-    cs = candidates size bits stretch
+module _ {A : Type 0} {Is : (ℕ → A) → Type 0} {range need later size bits at : ℕ} {stretch : List ℕ} {old : List A} where
+  pub taking_none : at + min need (held size stretch) ≤ length old → Taking Is range need later size bits stretch old at old at need (held size stretch + later) 0
+  taking_none l =
+      record {
+        done = λ g k. rw none (stored_none old refl);
+        long = refl;
+        next_is = rw none (omega arith);
+        still_is = rw none (omega arith);
+        left_is = omega arith;
+        room = omega arith;
+      }
+    where
+      none : first range need later (candidates size bits stretch) 0 ≡ []
+      none = first_none range need later (candidates size bits stretch)
 
-module _ {A : Type 0} {g : List ℕ → List A} {range need later size bits at : ℕ} {stretch : List ℕ} {old : List A} where
-  pub taking_none : Kept g → Taking g range need later size bits stretch old at old at 0
-  taking_none kept =
-      taking kept range need later size bits stretch (rw (first_none range need later (candidates size bits stretch), kept.none) (stored_none old refl))
-
-  module _ {out : List A} {next j : ℕ} (t : Taking g range need later size bits stretch old at out next j) where
-    -- candidate j, with `left` after it, where m are still needed
-    pub taking_more : {last : List A} {after : ℕ} (c left m : ℕ) → Stored (g (part range m left (c ∷ []))) out next last after
-        → c ≡ piece size stretch j % 2 ^ bits → j < held size stretch → left ≡ held size stretch - (j + 1) + later → m + next ≡ at + need
-        → Taking g range need later size bits stretch old at last after (j + 1)
-    taking_more c left m s e h f k =
-        taking t.kept range need later size bits stretch
-        (rw (
-          first_more range need later cs j c left m (rw many h) (e ∙ sym (candidates_at size bits stretch j h)) (rw many f) (omega (arith, taken)),
-          t.kept.append (first range need later cs j) (part range m left (c ∷ [])),
-        )
-        (stored_append t.done s))
+  module _ {out : List A} {next still left j : ℕ} (t : Taking Is range need later size bits stretch old at out next still left j) (inside : j < held size stretch) where
+    -- candidate j
+    taking_more : {last : List A} {after fewer : ℕ} (c : ℕ) {new : List ℕ} → c ≡ piece size stretch j % 2 ^ bits → part range still (left - 1) (c ∷ []) ≡ new
+        → ((g : ℕ → A) → Is g → Stored (map g new) out next last after) → length last ≡ length out
+        → after ≡ next + length new → fewer + length new ≡ still → after + min fewer (held size stretch - (j + 1)) ≤ length old
+        → Taking Is range need later size bits stretch old at last after fewer (left - 1) (j + 1)
+    taking_more c {new} e f s l h k r =
+        record {
+          done = λ g is. rw (more, map-append g (first range need later cs j) new) (stored_append (t.done g is) (s g is));
+          long = l ∙ t.long;
+          next_is = rw (more, length-append (first range need later cs j) new) (omega (arith, t.next_is));
+          still_is = rw (more, length-append (first range need later cs j) new) (omega (arith, t.still_is));
+          left_is = omega (arith, t.left_is);
+          room = r;
+        }
       where
         cs : List ℕ
         cs = candidates size bits stretch
@@ -163,16 +138,27 @@ module _ {A : Type 0} {g : List ℕ → List A} {range need later size bits at :
         many : length cs ≡ held size stretch
         many = candidates_length size bits stretch
 
-        taken : next ≡ at + length (first range need later cs j)
-        taken = t.done.next_is ∙ ap (λ (k : ℕ). at + k) (t.kept.long (first range need later cs j))
+        more : first range need later cs (j + 1) ≡ first range need later cs j ++ new
+        more =
+            first_more range need later cs j c (left - 1) still (rw many inside) (e ∙ sym (candidates_at size bits stretch j inside))
+            (rw many (omega (arith, t.left_is))) t.still_is
+            ∙ ap (λ (l : List ℕ). first range need later cs j ++ l) f
 
-    pub taking_all : held size stretch ≤ j → Stored (g (part range need later (candidates size bits stretch))) old at out next
+    -- which is taken as v, and kept as x
+    pub taking_one : {fewer : ℕ} (c v : ℕ) (x : A) → c ≡ piece size stretch j % 2 ^ bits → part range still (left - 1) (c ∷ []) ≡ v ∷ []
+        → ((g : ℕ → A) → Is g → x ≡ g v) → fewer + 1 ≡ still
+        → Taking Is range need later size bits stretch old at (set out next x) (next + 1) fewer (left - 1) (j + 1)
+    taking_one c v x e f s k = taking_more c e f (λ g is. stored_one (s g is) refl) (length-set out next x) refl k (omega (arith, t.room))
+
+    -- or passed over
+    pub taking_passed : (c : ℕ) → c ≡ piece size stretch j % 2 ^ bits → part range still (left - 1) (c ∷ []) ≡ []
+        → Taking Is range need later size bits stretch old at out next still (left - 1) (j + 1)
+    taking_passed c e f = taking_more c e f (λ g is. stored_none out refl) refl (omega arith) (omega arith) (omega (arith, t.room))
+
+  module _ {out : List A} {next still left j : ℕ} (t : Taking Is range need later size bits stretch old at out next still left j) (g : ℕ → A) (is : Is g) where
+    pub taking_all : held size stretch ≤ j → Stored (map g (part range need later (candidates size bits stretch))) old at out next
     taking_all h =
-        rw (← first_all range need later (candidates size bits stretch) j (rw (candidates_length size bits stretch) h)) t.done
+        rw (← first_all range need later (candidates size bits stretch) j (rw (candidates_length size bits stretch) h)) (t.done g is)
 
-    pub taking_full : at + need ≤ next → Stored (g (part range need later (candidates size bits stretch))) old at out next
-    taking_full h =
-        rw (← first_full range need later cs j (omega (arith, t.done.next_is, t.kept.long (first range need later cs j)))) t.done
-      where
-        cs : List ℕ
-        cs = candidates size bits stretch
+    pub taking_full : still ≡ 0 → Stored (map g (part range need later (candidates size bits stretch))) old at out next
+    taking_full h = rw (← first_full range need later (candidates size bits stretch) j (omega (arith, t.still_is))) (t.done g is)

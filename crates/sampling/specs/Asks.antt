@@ -7,42 +7,17 @@ use Rattle.sampling.specs.declared.drawn.DrawA.{DrawA}
 use Rattle.sampling.specs.Candidates.{held}
 use Rattle.sampling.specs.DrawA.{ValidA}
 
--- ---- one candidate
+-- ---- a stretch of a stream, with `later` candidates after it, whose number fits a word
 
--- candidate j of a stretch: it has at most 4 bytes, and at most 32 bits
-pub record Reads (size bits : ℕ) (stretch : List ℕ) (j : ℕ) : Type 0 where
+-- candidates of 1 to 4 bytes, a candidate less the range is below it, and there are places in the output for all that is needed of
+-- them, or for all of the stretch
+pub record ValuesStretch (size bits range later need : ℕ) (stretch : List ℕ) (places at : ℕ) : Type 0 where
   pub some : 0 < size
   pub few : size ≤ 4
   pub narrow : bits ≤ 32
-  pub inside : j < held size stretch
-
--- some value is needed, and there is a place for it
-pub record TakeValue (need next places : ℕ) : Type 0 where
-  pub needed : 0 < need
-  pub room : next < places
-
--- and the value less b fits 32 bits with its sign
-pub record TakeLess (b c need next places : ℕ) : Type 0 where
-  pub small : b < 2 ^ 31
-  pub once : c < 2 * (2 * b + 1)
-  pub needed : 0 < need
-  pub room : next < places
-
--- a position below n, which fits two bytes, is needed, and there is a place for it and its sign
-pub record TakePosition (p n need next places signs : ℕ) : Type 0 where
-  pub inside : p < n
-  pub fits : n ≤ 65536
-  pub needed : 0 < need
-  pub room : next < places
-  pub paired : signs ≡ places
-
--- ---- a stretch of a stream, with `later` candidates after it, whose number fits a word
-
--- candidates of 4 bytes, and places in the output for all that is needed of them, or for all of the stretch
-pub record ValuesStretch (bits later need : ℕ) (stretch : List ℕ) (places at : ℕ) : Type 0 where
-  pub narrow : bits ≤ 32
-  pub fits : held 4 stretch + later < 2 ^ 64
-  pub room : at + min need (held 4 stretch) ≤ places
+  pub once : 2 ^ bits ≤ 2 * range
+  pub fits : held size stretch + later < 2 ^ 64
+  pub room : at + min need (held size stretch) ≤ places
 
 -- a value of at most 32 bits, less b: it fits 32 bits with its sign, and a candidate of so many bits less 2b + 1 is at most 2b
 pub record Less (bits b : ℕ) : Type 0 where

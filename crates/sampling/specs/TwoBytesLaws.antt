@@ -1,5 +1,5 @@
--- Laws of a number's two bytes, low first: they are bytes, they are what the code makes, they give the number, and two numbers of 16 bits with the same
--- bytes are one.
+-- Laws of a number's two bytes, low first: they are bytes, they are the remainder and the quotient by 256, they give the number, and two
+-- numbers of 16 bits with the same bytes are one.
 -- Assumes nothing.
 use Rattle.std.specs.Prelude.{◌≡◌, List, [], ◌∷◌, ℕ, ◌+◌, ◌*◌, ◌/◌, ◌%◌, ◌^◌, ◌<◌}
 use Rattle.std.proofs.Common.{ap, ◌∙◌, arith}

@@ -10,7 +10,7 @@ ghost use Rattle.sampling.specs.Positions.{places_of, AreDrawn};
 ghost use Rattle.sampling.specs.Asks.{DrawY, Less, DrawEnc, PlacesDrawn, NextA};
 ghost use Rattle.sampling.specs.Promises.{StartedA, AfterA};
 
-use crate::{less_stretch, positions_stretch, values_stretch};
+use crate::{less_stretch, positions_stretch, two_bytes, values_stretch};
 use sets::{Numbers, Stream};
 use shake::Sponge;
 
@@ -21,8 +21,7 @@ fn start_y(set: Numbers, rand: &[u8], counter: u16) -> Sponge
     requires { set.digit < 16 }
     ensures { result ≡ absorbed (fresh set.digit 2) (rand.now ++ two_bytes counter) }
 {
-    let low_first = crate::two_bytes(counter);
-    set.fresh(Stream::Y).absorb(rand).absorb(&low_first)
+    set.fresh(Stream::Y).absorb(rand).absorb(&two_bytes(counter))
 }
 
 // The values from 0 to 2b of twice as many candidates as out has places, squeezed at most 136 at a time, each less b, into out.
@@ -37,10 +36,10 @@ fn draw_less(start: Sponge, bits: u32, b: u32, out: &mut [i32])
     let mut at = 0;
     while at < out.len() {
         let k = left.min(136);
-        let bytes = 3 * k;
+        let stretch = &mut buffer[..3 * k];
         left -= k;
-        sponge = sponge.squeeze(&mut buffer[..bytes]);
-        at = less_stretch(&buffer[..bytes], bits, b, left, out, at);
+        sponge = sponge.squeeze(stretch);
+        at = less_stretch(stretch, bits, b, left, out, at);
     }
 }
 
@@ -65,10 +64,10 @@ fn draw_positions(start: Sponge, n: u32, bits: u32, positions: &mut [u16], signs
     let mut at = 0;
     while at < positions.len() {
         let k = left.min(136);
-        let bytes = 3 * k;
+        let stretch = &mut buffer[..3 * k];
         left -= k;
-        sponge = sponge.squeeze(&mut buffer[..bytes]);
-        at = positions_stretch(&buffer[..bytes], bits, n, left, positions, signs, at);
+        sponge = sponge.squeeze(stretch);
+        at = positions_stretch(stretch, bits, n, left, positions, signs, at);
     }
 }
 
@@ -113,17 +112,19 @@ pub fn next_a(set: Numbers, d: DrawA, out: &mut [u32]) -> DrawA
     requires { NextA set d (length out.old) }
     ensures { AfterA set d out.new result }
 {
-    let mut sponge = d.sponge;
-    let mut left = d.left;
-    let mut need = d.need;
+    let DrawA {
+        mut sponge,
+        mut left,
+        mut need,
+    } = d;
     let mut buffer = [0u8; 408];
     let mut at = 0;
     while at < out.len() {
         let k = (out.len() - at).min(102);
-        let bytes = 4 * k;
+        let stretch = &mut buffer[..4 * k];
         left -= k;
-        sponge = sponge.squeeze(&mut buffer[..bytes]);
-        let next = values_stretch(&buffer[..bytes], set.t_bits, set.q, left, need, out, at);
+        sponge = sponge.squeeze(stretch);
+        let next = values_stretch(stretch, set.t_bits, set.q, left, need, out, at);
         need -= next - at;
         at = next;
     }

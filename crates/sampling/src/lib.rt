@@ -5,16 +5,17 @@
 pub mod digests;
 pub mod drawn;
 
-ghost use Rattle.std.specs.Prelude.{◌≡◌, [], ◌∷◌, map, ◌+◌, ◌-◌, ◌*◌, ◌/◌, ◌%◌, ◌^◌, ◌≤◌, ◌<◌, length, take};
+ghost use Rattle.std.specs.Prelude.{◌≡◌, [], ◌∷◌, map, ◌+◌, ◌-◌, ◌*◌, ◌/◌, ◌%◌, ◌^◌, ◌≤◌, ◌<◌, ℕ, ℤ, length, take, MatchOption};
 ghost use Rattle.answers.specs.Answers.{number_of};
 ghost use Rattle.sets.specs.Good.{Good};
 ghost use Rattle.sets.specs.SetI.{set_i};
-ghost use Rattle.sampling.specs.Candidates.{held, piece, candidates};
+ghost use Rattle.packing.specs.Digits.{value};
+ghost use Rattle.sampling.specs.Candidates.{candidates};
 ghost use Rattle.sampling.specs.Positions.{free, sign_of, drawn_candidates};
 ghost use Rattle.sampling.specs.Streams.{two_bytes};
 ghost use Rattle.sampling.specs.Stretches.{part, part_positions, drawn_as};
 ghost use Rattle.sampling.specs.Values.{less_of};
-ghost use Rattle.sampling.specs.Asks.{Reads, TakeValue, ValuesStretch, TakeLess, LessStretch, TakePosition, PositionsStretch};
+ghost use Rattle.sampling.specs.Asks.{ValuesStretch, LessStretch, PositionsStretch};
 ghost use Rattle.sampling.specs.Promises.{Upward, TakesA, TakesY, TakesPositions};
 ghost use Rattle.sampling.specs.Stored.{Stored, StoredDrawn};
 
@@ -32,36 +33,60 @@ pub fn two_bytes(x: u16) -> [u8; 2]
 
 // ---- candidates
 
-// Candidate j: the low bits of the number that the size bytes from size · j on make, low byte first.
-fn candidate(stretch: &[u8], size: usize, bits: u32, j: usize) -> u32
-    requires { Reads size bits stretch.now j }
-    ensures { result ≡ piece size stretch.now j % 2 ^ bits }
+// A candidate: the low bits of the number that the bytes are, low byte first.
+fn candidate(bytes: &[u8], bits: u32) -> u32
+    requires { (length bytes.now ≤ 4) × (bits ≤ 32) }
+    ensures { result ≡ value 8 bytes.now % 2 ^ bits }
 {
-    let from = size * j;
-    let mut v: u64 = 0;
-    let mut k = size;
-    while 0 < k {
-        k -= 1;
-        v = v * 256 + u64::from(stretch[from + k]);
-    }
-    packing::low(v, bits)
+    let v = bytes.iter().rev().fold(0, |v, b| v << 8 | u32::from(*b));
+    packing::low(u64::from(v), bits)
 }
 
 // ---- values
 
-// One candidate for a value below range, with `left` candidates after it and `need` values needed: what is taken of it is stored at
-// next. Answers the next place.
-fn take_value(c: u32, range: u32, left: usize, need: usize, out: &mut [u32], next: usize) -> usize
-    requires { TakeValue need next (length out.old) }
-    ensures { Stored (part range need left (c ∷ [])) out.old next out.new result }
+// What is taken of candidate c for a value below range, with `left` candidates after it and `need` values needed.
+fn taken(c: u32, range: u32, left: usize, need: usize) -> Option<u32>
+    requires { (0 < need) × (c < 2 * range) }
+    ensures { MatchOption result (part range need left (c ∷ []) ≡ []) (λ v. (v < range) × (part range need left (c ∷ []) ≡ v ∷ [])) }
 {
     if c < range {
-        out[next] = c;
-        return next + 1;
+        Some(c)
+    } else if left < need {
+        Some(c - range)
+    } else {
+        None
     }
-    if left < need {
-        out[next] = c - range;
-        return next + 1;
+}
+
+// The values below range of a stretch of candidates of SIZE bytes, which `later` candidates follow, where `need` values are needed of all
+// of them: what `keep` makes of each is stored in out from `at` on. Answers the next place.
+fn keep_values<const SIZE: usize, T: Copy, F: Fn(u32) -> T>(
+    stretch: &[u8],
+    bits: u32,
+    range: u32,
+    later: usize,
+    mut need: usize,
+    keep: F,
+    out: &mut [T],
+    at: usize,
+) -> usize
+    requires asks { ValuesStretch SIZE bits range later need stretch.now (length out.old) at }
+    requires callable { (v : ℕ) → v < range → F.pre keep v }
+    ensures { (g : ℕ → T) → ((v : ℕ) (x : T) → v < range → F.post keep v x → x ≡ g v) → Stored (map g (part range need later (candidates SIZE bits stretch.now))) out.old at out.new result }
+{
+    let (pieces, _) = stretch.as_chunks::<SIZE>();
+    let mut next = at;
+    let mut left = pieces.len() + later;
+    for bytes in pieces {
+        if need == 0 {
+            break;
+        }
+        left -= 1;
+        if let Some(v) = taken(candidate(bytes, bits), range, left, need) {
+            out[next] = keep(v);
+            next += 1;
+            need -= 1;
+        }
     }
     next
 }
@@ -77,25 +102,11 @@ fn values_stretch(
     out: &mut [u32],
     at: usize,
 ) -> usize
-    requires { ValuesStretch bits later need stretch.now (length out.old) at }
+    requires { ValuesStretch 4 bits range later need stretch.now (length out.old) at }
     ensures { Stored (part range need later (candidates 4 bits stretch.now)) out.old at out.new result }
 {
-    let held = stretch.len() / 4;
-    let mut next = at;
-    let mut j = 0;
-    while j < held {
-        let taken = next - at;
-        if taken == need {
-            return next;
-        }
-        let c = candidate(stretch, 4, bits, j);
-        j += 1;
-        next = take_value(c, range, held - j + later, need - taken, out, next);
-    }
-    next
+    keep_values::<4, _, _>(stretch, bits, range, later, need, |v| v, out, at)
 }
-
-// ---- values less b
 
 // v − b.
 fn less(v: u32, b: u32) -> i32
@@ -103,24 +114,6 @@ fn less(v: u32, b: u32) -> i32
     ensures { result ≡ less_of b v }
 {
     (i64::from(v) - i64::from(b)) as i32
-}
-
-// One candidate for a value from 0 to 2b, with `left` candidates after it and `need` values needed: what is taken of it, less b, is
-// stored at next. Answers the next place.
-fn take_less(c: u32, b: u32, left: usize, need: usize, out: &mut [i32], next: usize) -> usize
-    requires { TakeLess b c need next (length out.old) }
-    ensures { Stored (map (less_of b) (part (2 * b + 1) need left (c ∷ []))) out.old next out.new result }
-{
-    let range = 2 * b + 1;
-    if c < range {
-        out[next] = less(c, b);
-        return next + 1;
-    }
-    if left < need {
-        out[next] = less(c - range, b);
-        return next + 1;
-    }
-    next
 }
 
 // The values from 0 to 2b of a stretch of candidates of 3 bytes, which `later` candidates follow, each less b, stored in out from `at` on.
@@ -136,29 +129,26 @@ fn less_stretch(
     requires { LessStretch bits b later stretch.now (length out.old) at }
     ensures { Stored (map (less_of b) (part (2 * b + 1) (length out.old - at) later (candidates 3 bits stretch.now))) out.old at out.new result }
 {
-    let held = stretch.len() / 3;
-    let end = out.len();
-    let mut next = at;
-    let mut j = 0;
-    while j < held {
-        if next == end {
-            return next;
-        }
-        let c = candidate(stretch, 3, bits, j);
-        j += 1;
-        next = take_less(c, b, held - j + later, end - next, out, next);
-    }
-    next
+    let need = out.len() - at;
+    keep_values::<3, _, _>(
+        stretch,
+        bits,
+        2 * b + 1,
+        later,
+        need,
+        |v| less(v, b),
+        out,
+        at,
+    )
 }
 
 // ---- positions with signs
 
-// The sign that candidate j's third byte gives: −1 where its low bit is set, +1 where it is clear.
-fn sign_at(stretch: &[u8], j: usize) -> i8
-    requires { j < held 3 stretch.now }
-    ensures { result ≡ sign_of (piece 3 stretch.now j / 65536) }
+// The sign that a candidate's third byte gives: −1 where its low bit is set, +1 where it is clear.
+fn sign_of(third: u8) -> i8
+    ensures { result ≡ sign_of third }
 {
-    if stretch[3 * j + 2] % 2 == 1 { -1 } else { 1 }
+    if third % 2 == 1 { -1 } else { 1 }
 }
 
 // The next position upward, from n − 1 on to 0.
@@ -184,33 +174,18 @@ fn next_free(ps: &[u16], n: u32, p: u16) -> u16
     at
 }
 
-// One candidate for a position below n, with its sign, `left` candidates after it and `need` positions needed: what is taken of it is
-// stored at next, before which stand the positions taken already. Answers the next place.
-fn take_position(
-    p: u16,
-    sign: i8,
-    n: u32,
-    left: usize,
-    need: usize,
-    positions: &mut [u16],
-    signs: &mut [i8],
-    next: usize,
-) -> usize
-    requires { TakePosition p n need next (length positions.old) (length signs.old) }
-    ensures { StoredDrawn (part_positions n need left (take next positions.old) (drawn_as p sign ∷ [])) positions.old signs.old next positions.new signs.new result }
+// The position that a candidate for p gets below n, with `left` candidates after it and `need` positions needed, where those of ps are
+// taken already.
+fn placed(p: u16, n: u32, left: usize, need: usize, ps: &[u16]) -> Option<u16>
+    requires { (p < n) × (n ≤ 65536) × (0 < need) }
+    ensures { (s : ℤ) → MatchOption result (part_positions n need left ps.now (drawn_as p s ∷ []) ≡ []) (λ q. part_positions n need left ps.now (drawn_as p s ∷ []) ≡ drawn_as q s ∷ []) }
 {
-    if positions[..next].contains(&p) {
-        if need <= left {
-            return next;
-        }
-        let place = next_free(&positions[..next], n, p);
-        positions[next] = place;
-        signs[next] = sign;
-        next + 1
+    if !ps.contains(&p) {
+        Some(p)
+    } else if left < need {
+        Some(next_free(ps, n, p))
     } else {
-        positions[next] = p;
-        signs[next] = sign;
-        next + 1
+        None
     }
 }
 
@@ -228,27 +203,21 @@ fn positions_stretch(
     requires { PositionsStretch n bits later stretch.now (length positions.old) (length signs.old) at }
     ensures { StoredDrawn (part_positions n (length positions.old - at) later (take at positions.old) (drawn_candidates bits stretch.now)) positions.old signs.old at positions.new signs.new result }
 {
-    let held = stretch.len() / 3;
-    let end = positions.len();
+    let (pieces, _) = stretch.as_chunks::<3>();
     let mut next = at;
-    let mut j = 0;
-    while j < held {
-        if next == end {
-            return next;
+    let mut left = pieces.len() + later;
+    for bytes in pieces {
+        if next == positions.len() {
+            break;
         }
-        let p = candidate(stretch, 3, bits, j) as u16;
-        let sign = sign_at(stretch, j);
-        j += 1;
-        next = take_position(
-            p,
-            sign,
-            n,
-            held - j + later,
-            end - next,
-            positions,
-            signs,
-            next,
-        );
+        left -= 1;
+        let p = candidate(bytes, bits) as u16;
+        let sign = sign_of(bytes[2]);
+        if let Some(q) = placed(p, n, left, positions.len() - next, &positions[..next]) {
+            positions[next] = q;
+            signs[next] = sign;
+            next += 1;
+        }
     }
     next
 }

@@ -13,7 +13,7 @@ abbrev pub invariant-loop-at : goal.invariant-loop-at
 invariant-loop-at l =
     Squeezing (map (less_of l.b)) 3 l.bits (2 * l.b + 1)
     (map (less_of l.b) (values (2 * l.b + 1) (length l.initial.out) (candidates 3 l.bits (squeezed (3 * (2 * length l.initial.out)) l.initial.sponge))))
-    l.initial.out l.initial.left (length l.initial.out) l.out l.sponge l.buffer l.left (length l.initial.out - l.at) l.at
+    l.initial.out l.initial.left (length l.initial.out) l.out l.sponge l.left (length l.initial.out - l.at) l.at
 
 abbrev pub decreases-loop-at : goal.decreases-loop-at
 decreases-loop-at l = l.left

@@ -6,7 +6,7 @@ use Rattle.sampling.proofs.drawn.draw_positions.Goals as goal
 
 pub loop-at-preserved : goal.loop-at-preserved
 loop-at-preserved c =
-    let squeezed = filled (3 * c.min-k.result) c.loop-at.sponge (omega arith) c.squeeze-sponge.ensures.state c.squeeze-sponge.ensures.bytes in
+    let squeezed = filled (3 * c.min-k.result) c.loop-at.buffer c.loop-at.sponge (omega arith) c.squeeze-sponge.ensures.state c.squeeze-sponge.ensures.bytes in
     gathering_more c.loop-at.invariant _ squeezed (omega arith) c.positions_stretch-at.ensures
 
 pub returns : goal.returns

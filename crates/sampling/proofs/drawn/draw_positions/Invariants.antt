@@ -9,7 +9,7 @@ use Rattle.sampling.proofs.drawn.draw_positions.Given as goal
 
 abbrev pub invariant-loop-at : goal.invariant-loop-at
 invariant-loop-at l =
-    Gathering l.n l.bits (places_of l.n l.bits (length l.initial.positions) (squeezed (3 * 256) l.initial.sponge)) l.initial.positions l.initial.signs l.positions l.signs l.sponge l.buffer l.left l.at
+    Gathering l.n l.bits (places_of l.n l.bits (length l.initial.positions) (squeezed (3 * 256) l.initial.sponge)) l.initial.positions l.initial.signs l.positions l.signs l.sponge l.left l.at
 
 abbrev pub decreases-loop-at : goal.decreases-loop-at
 decreases-loop-at l = l.left

@@ -11,7 +11,7 @@ use Rattle.sampling.proofs.drawn.next_a.Given as goal
 abbrev pub invariant-loop-at : goal.invariant-loop-at
 invariant-loop-at l =
     Squeezing (λ (vs : List ℕ). vs) 4 l.set.t_bits l.set.q (values l.set.q l.initial.need (candidates 4 l.set.t_bits (squeezed (4 * l.initial.left) l.initial.sponge)))
-    l.initial.out l.initial.left l.initial.need l.out l.sponge l.buffer l.left l.need l.at
+    l.initial.out l.initial.left l.initial.need l.out l.sponge l.left l.need l.at
 
 abbrev pub decreases-loop-at : goal.decreases-loop-at
 decreases-loop-at l = l.left
