@@ -1,14 +1,13 @@
 -- The tests on w_1..w_k, one after another, and z. Assumes nothing.
-use mathlib.Core.Path.{◌≡◌, refl, sym, ap, ◌∙◌}
+use mathlib.Core.Path.{◌≡◌, sym, ap, ◌∙◌}
 use mathlib.Core.Bool.{Bool, true, false}
 use mathlib.Core.Logic.{⊎_elim}
-use mathlib.Core.List.{List, [], ◌∷◌, ◌++◌}
+use mathlib.Core.List.{List, [], ◌∷◌}
 use Prim.Native.Nat.{ℕ, suc, ◌+◌, ◌*◌, ◌-◌, ◌^◌, ◌≤◌, ◌<◌, zero-le, suc-le-suc}
-use native.Mathlib.Nat.{add-sub_cancel_left}
 use native.Mathlib.Omega.{arith}
 use lib.IntN.{ℤ, pos, nat_abs, ◌+ℤ◌, ◌-ℤ◌, ◌*ℤ◌, +ℤ_comm}
-use lib.ListN.{length, get_or, take, drop}
-use lib.Seq.{drop-drop}
+use lib.ListN.{length, get_or}
+use borrow.Author.Count.{below_more}
 use Rattle.whole.specs.Int.{lt_or_le, abs_neg, abs_sum, abs_product}
 use Rattle.whole.specs.Residue.{residue}
 use Rattle.whole.specs.Table.{table}
@@ -17,8 +16,7 @@ use Rattle.whole.specs.Below.{Below}
 use Rattle.whole.specs.BelowLaws.{within_more, within_table}
 use Rattle.whole.specs.TwosLaws.{signed_size}
 use Rattle.whole.specs.Every.{every, each_below}
-use Rattle.whole.specs.EveryLaws.{not_first, each_below_none, each_below_more, each_below_fails}
-use Rattle.whole.specs.Rows.{row_fits, row_lent, row_next, back_length, back_rest}
+use Rattle.whole.specs.EveryLaws.{not_first, each_below_all, each_below_fails}
 use Rattle.rounding.specs.Tests.{low_passes, size_passes}
 use Rattle.rounding.specs.Asks.{LowTests, SizeTests}
 use Rattle.ring.specs.Product.{Poly, turn, mul}
@@ -30,8 +28,8 @@ use Rattle.ring.specs.SparseLaws.{mul_sparse, sign_size}
 use Rattle.ring.specs.Asks.{WithSmall, Summands}
 use Rattle.sets.specs.declared.Numbers.{Numbers}
 use Rattle.sets.specs.GoodLaws.{q_some, y_small}
-use Rattle.records.specs.Layout.{polynomial}
-use Rattle.records.specs.PublicLaws.{polynomial_length}
+use Rattle.records.specs.ChunksLaws.{Comes}
+use Rattle.records.specs.PublicLaws.{polynomial_length, polynomial_below}
 use Rattle.attempts.specs.Attempt.{w_passes}
 use Rattle.attempts.specs.Steps.{z_with, w_one, w_with}
 use Rattle.sampling.specs.Asks.{Terms}
@@ -165,57 +163,35 @@ module _ {set : Numbers} {e v ps : List ℕ} {ss ec : List ℤ} (t : TestsOneW s
 
 -- ---- w_1..w_k
 
--- w_1..w_i pass, and v_(i + 1)..v_k are as they were
-pub record Testing (set : Numbers) (e old ps : List ℕ) (ss : List ℤ) (v : List ℕ) (ec : List ℤ) (i : ℕ) : Type 0 where
-  pub long : length v ≡ length old
-  pub rest : drop (set.n * i) v ≡ drop (set.n * i) old
-  pub room : length ec ≡ set.n
-  pub passed : each_below i (λ j. w_passes set (w_with set e old (sparse ps ss) j)) ≡ true
+-- whether w_(j + 1) passes
+abbrev pub passes_w : Numbers → List ℕ → List ℕ → List ℕ → List ℤ → ℕ → Bool
+passes_w set e v ps ss j = w_passes set (w_with set e v (sparse ps ss) j)
 
-module _ {set : Numbers} {e old ps : List ℕ} {ss before : List ℤ} (t : TestsW set e old ps ss before) where
-  pub testing_none : Testing set e old ps ss old before 0
-  testing_none =
-      record {
-        long = refl;
-        rest = refl;
-        room = t.ec_long;
-        passed = each_below_none (λ j. w_passes set (w_with set e old (sparse ps ss) j));
-      }
+-- the test of w_(i + 1), where e_(i + 1) and v_(i + 1) come
+module _ {set : Numbers} {e v ps : List ℕ} {ss before : List ℤ} (t : TestsW set e v ps ss before)
+    {m next i : ℕ} {x y : List ℕ} (c : Comes set e m next i x × Comes set v m next i y) where
+  pub pair_asks : {ec : List ℤ} → length ec ≡ length before → TestsOneW set x y ps ss ec
+  pair_asks room =
+      rw (c.0.is, c.1.is)
+      (record {
+        good = t.good;
+        e_long = polynomial_length set.n set.k i e t.e_long c.0.inside;
+        v_long = polynomial_length set.n set.k i v t.v_long c.1.inside;
+        v_below = polynomial_below set.q set.n i v t.v_below;
+        terms = t.terms;
+        ec_long = room ∙ t.ec_long;
+      })
 
-  module _ {v : List ℕ} {ec : List ℤ} {i : ℕ} (h : Testing set e old ps ss v ec i) where
-    v_lent : take (set.n * i + set.n - set.n * i) (drop (set.n * i) v) ≡ polynomial set.n i old
-    v_lent = row_lent set.n i v ∙ ap (take set.n) h.rest
+  module _ {r : Bool} (f : r ≡ w_passes set (w_one set x y (sparse ps ss))) where
+    is_test : r ≡ passes_w set e v ps ss i
+    is_test = rw (c.0.is, c.1.is) at f
 
-    rest_kept : drop (set.n * i + set.n) v ≡ drop (set.n * i + set.n) old
-    rest_kept = sym (drop-drop set.n (set.n * i) v) ∙ ap (drop set.n) h.rest ∙ drop-drop set.n (set.n * i) old
+    pub pair_fails : r ≡ false → false ≡ each_below set.k (passes_w set e v ps ss)
+    pair_fails g = sym (each_below_fails set.k i (passes_w set e v ps ss) c.0.inside (sym is_test ∙ g))
 
-    same_test : {r : Bool}
-        → r ≡ w_passes set (w_one set (take (set.n * i + set.n - set.n * i) (drop (set.n * i) e)) (take (set.n * i + set.n - set.n * i) (drop (set.n * i) v)) (sparse ps ss))
-        → r ≡ w_passes set (w_with set e old (sparse ps ss) i)
-    same_test f = rw (row_lent set.n i e, v_lent) at f
+    pub pair_passes : r ≡ true → ((j : ℕ) → j < m → passes_w set e v ps ss j ≡ true) → (j : ℕ) → j < next → passes_w set e v ps ss j ≡ true
+    pair_passes g h = rw c.0.counted (below_more (λ j. passes_w set e v ps ss j ≡ true) i (rw c.0.at h) (sym is_test ∙ g))
 
-    pub testing_fits : i < set.k → set.n * i + set.n ≤ length v
-    testing_fits l = omega (arith, row_fits set.n set.k i l, h.long, t.v_long)
-
-    pub testing_more : (new : List ℕ) (after : List ℤ) {r : Bool} → i < set.k
-        → length new ≡ length (take (set.n * i + set.n - set.n * i) (drop (set.n * i) v)) → length after ≡ length ec
-        → r ≡ w_passes set (w_one set (take (set.n * i + set.n - set.n * i) (drop (set.n * i) e)) (take (set.n * i + set.n - set.n * i) (drop (set.n * i) v)) (sparse ps ss))
-        → r ≡ true
-        → Testing set e old ps ss (take (set.n * i) v ++ (new ++ drop (set.n * i + set.n - set.n * i) (drop (set.n * i) v))) after (i + 1)
-    testing_more new after l long room f g =
-        rw (add-sub_cancel_left (set.n * i) set.n)
-        (record {
-          long = back_length (set.n * i) set.n v new (testing_fits l) new_long ∙ h.long;
-          rest = rw (row_next set.n i) (back_rest (set.n * i) set.n v new (testing_fits l) new_long ∙ rest_kept);
-          room = room ∙ h.room;
-          passed = each_below_more (λ j. w_passes set (w_with set e old (sparse ps ss) j)) h.passed (sym (same_test f) ∙ g) refl;
-        })
-      where
-        new_long : length new ≡ set.n
-        new_long = long ∙ ap length v_lent ∙ polynomial_length set.n set.k i old t.v_long l
-
-    pub testing_fails : {r : Bool} → i < set.k
-        → r ≡ w_passes set (w_one set (take (set.n * i + set.n - set.n * i) (drop (set.n * i) e)) (take (set.n * i + set.n - set.n * i) (drop (set.n * i) v)) (sparse ps ss))
-        → r ≡ false → false ≡ each_below set.k (λ j. w_passes set (w_with set e old (sparse ps ss) j))
-    testing_fails l f g =
-        sym (each_below_fails set.k i (λ j. w_passes set (w_with set e old (sparse ps ss) j)) l (sym (same_test f) ∙ g))
+-- all passed
+pub pairs_all : {k m : ℕ} (p : ℕ → Bool) → m ≡ k → ((j : ℕ) → j < m → p j ≡ true) → true ≡ each_below k p
+pairs_all p e h = sym (each_below_all _ p (rw e at h))

@@ -40,19 +40,8 @@ fn w_tests(
     requires { TestsW set e.now v.old positions.now signs.now ec.old }
     ensures { result ≡ each_below set.k (λ i. w_passes set (w_with set e.now v.old (sparse positions.now signs.now) i)) }
 {
-    // By index, as v is written.
-    let n = set.n;
-    for i in 0..set.k {
-        let start = n * i;
-        let end = start + n;
-        if !w_test(
-            set,
-            &e[start..end],
-            &mut v[start..end],
-            positions,
-            signs,
-            ec,
-        ) {
+    for (e_i, v_i) in e.chunks_exact(set.n).zip(v.chunks_exact_mut(set.n)) {
+        if !w_test(set, e_i, v_i, positions, signs, ec) {
             return false;
         }
     }
