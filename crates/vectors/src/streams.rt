@@ -15,17 +15,17 @@ ghost use Rattle.std.specs.Prelude.{length};
 ghost use Rattle.sampling.specs.Asks.{DrawY};
 
 use crate::bytes;
-use sets::{Numbers, Parameters, SetI};
+use sets::{Numbers, Parameters, SetI, Stream};
 use shake::Sponge;
 use std::io;
 
 // ---- over a lent stream
 
 fn lent_a(rt: &impl Print, given: &[u8]) -> io::Result<()> {
-    let mut room = [0xA5A5A5A5; 2048];
+    let mut room = [0xA5A5A5A5; 4100];
     let out = bytes::lend(given, 0, &mut room);
     let answer = sampling::take_a(bytes::rest(given, 4), out);
-    bytes::print_answer(rt, answer)?;
+    bytes::print_answer(rt, &answer)?;
     bytes::print_values(rt, out, u32::to_le_bytes)
 }
 
@@ -33,7 +33,7 @@ fn lent_y(rt: &impl Print, given: &[u8]) -> io::Result<()> {
     let mut room = [0xA5A5A5A5u32.cast_signed(); 2048];
     let out = bytes::lend(given, 0, &mut room);
     let answer = sampling::take_y(bytes::rest(given, 4), out);
-    bytes::print_answer(rt, answer)?;
+    bytes::print_answer(rt, &answer)?;
     bytes::print_values(rt, out, i32::to_le_bytes)
 }
 
@@ -43,7 +43,7 @@ fn lent_positions(rt: &impl Print, given: &[u8]) -> io::Result<()> {
     let mut sign_room = [0xA5u8.cast_signed(); 2048];
     let signs = bytes::lend(given, 1, &mut sign_room);
     let answer = sampling::take_positions(bytes::rest(given, 8), positions, signs);
-    bytes::print_answer(rt, answer)?;
+    bytes::print_answer(rt, &answer)?;
     print_positions(rt, positions, signs)
 }
 
@@ -118,7 +118,7 @@ fn rand(rt: &impl Print, given: &[u8]) -> io::Result<()> {
 
 fn challenge(rt: &impl Print, given: &[u8]) -> io::Result<()> {
     let mut out = [0; 32];
-    let highs = SetI::fresh_challenge().absorb(bytes::rest(given, 80));
+    let highs = SetI::numbers().fresh(Stream::Challenge).absorb(bytes::rest(given, 80));
     sampling::digests::challenge_of(
         highs,
         bytes::part(given, 0, 40),
