@@ -11,7 +11,7 @@ ghost use Rattle.records.specs.Public.{t_in_range};
 ghost use Rattle.records.specs.Secret.{secret_seed_a};
 ghost use Rattle.speed.specs.Promises.{PacksOne, multiplies, Multiplies};
 
-use sets::{Numbers, Parameters, SetI};
+use sets::{Parameters, SetI};
 
 // bytes of a secret record, and of a packed polynomial
 const SECRET_BYTES: usize = 5226;
@@ -23,8 +23,7 @@ const T_BYTES: usize = 3712;
 pub extern "C" fn speed_permute(lanes: &mut [u64; 25])
     ensures { lanes.new ≡ keccak_f lanes.old }
 {
-    let next = keccak::permute(*lanes);
-    *lanes = next;
+    *lanes = keccak::permute(*lanes);
 }
 
 // a_1..a_k of the record's seed_a, in a row.
@@ -64,29 +63,16 @@ pub extern "C" fn speed_unpack(bytes: &[u8; T_BYTES], t: &mut [u32; SetI::N])
 fn multiplies(a: &[u32], b: &[u32], places: usize) -> bool
     ensures { result ≡ multiplies a.now b.now places }
 {
-    if a.len() != places {
-        return false;
-    }
-    if b.len() != places {
-        return false;
-    }
-    if below_q(a) { below_q(b) } else { false }
+    a.len() == places && b.len() == places && below_q(a) && below_q(b)
 }
 
-// a b modulo q where the lengths and the values fit. The numbers come from the set, as the entries hand them on.
-fn product(set: Numbers, a: &[u32], b: &[u32], out: &mut [u32])
-    requires { set ≡ set_i }
-    ensures { Multiplies a.now b.now out.old out.new }
-{
-    if multiplies(a, b, out.len()) {
-        ring::product::multiply(a, b, set.q, out);
-    }
-}
-
-// a b modulo q. Nothing is done where a length or a value does not fit.
+// a b modulo q. Nothing is done where a length or a value does not fit. The numbers come from the set, as the entries hand them on.
 #[unsafe(no_mangle)]
 pub extern "C" fn speed_multiply(a: &[u32], b: &[u32], out: &mut [u32])
     ensures { Multiplies a.now b.now out.old out.new }
 {
-    product(SetI::numbers(), a, b, out);
+    let set = SetI::numbers();
+    if multiplies(a, b, out.len()) {
+        ring::product::multiply(a, b, set.q, out);
+    }
 }
