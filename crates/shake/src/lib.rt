@@ -94,14 +94,14 @@ impl Sponge {
     }
 
     // Absorbs the byte b.
-    pub fn absorb_byte(self, b: u8) -> Sponge
+    pub fn absorb_byte(mut self, b: u8) -> Sponge
         ensures { result ≡ absorbed self (b ∷ []) }
     {
         self.absorb(&[b])
     }
 
     // Absorbs the bytes, the first of them first.
-    pub fn absorb(self, bytes: &[u8]) -> Sponge
+    pub fn absorb(mut self, bytes: &[u8]) -> Sponge
         ensures { result ≡ absorbed self bytes.now }
     {
         let Sponge {
@@ -146,7 +146,7 @@ impl Sponge {
     }
 
     // Squeezes one byte.
-    pub fn squeeze_byte(self) -> OneByte
+    pub fn squeeze_byte(mut self) -> OneByte
         ensures byte { (result.byte ∷ []) ≡ squeezed 1 self }
         ensures state { result.state ≡ after_squeeze 1 self }
     {
@@ -159,7 +159,7 @@ impl Sponge {
     }
 
     // Squeezes 136 bytes, as many as a block has, from whatever place the state is at.
-    pub fn squeeze_block(self) -> Block
+    pub fn squeeze_block(mut self) -> Block
         ensures bytes { result.bytes ≡ squeezed 136 self }
         ensures state { result.state ≡ after_squeeze 136 self }
     {
@@ -169,7 +169,7 @@ impl Sponge {
     }
 
     // Squeezes as many bytes as out has places, into out.
-    pub fn squeeze(self, out: &mut [u8]) -> Sponge
+    pub fn squeeze(mut self, out: &mut [u8]) -> Sponge
         ensures state { result ≡ after_squeeze (length out.old) self }
         ensures bytes { out.new ≡ squeezed (length out.old) self }
     {
