@@ -8,9 +8,8 @@ use Rattle.whole.specs.Every.{every}
 use Rattle.answers.specs.Tests.{Answered, AllPass, numbered}
 use Rattle.answers.specs.ResultLaws.{passed_ok}
 use Rattle.sets.specs.declared.Numbers.{Numbers}
-use Rattle.sets.specs.SetI.{set_i}
 use Rattle.sampling.specs.Streams.{message_digest}
-use Rattle.checking.specs.Check.{input_tests, work_tests, digest_tests, check_tests}
+use Rattle.checking.specs.Check.{input_tests, work_tests}
 use Rattle.checking.specs.Asks.{Tested}
 
 pub inputs_numbered : (set : Numbers) (public : List ℕ) (message : ℕ) (signature : List ℕ) → numbered (input_tests set public message signature) ≡ true
@@ -32,11 +31,3 @@ inputs_tested message a =
 pub digest_answered : (set : Numbers) (public message signature : List ℕ) {digest : List ℕ} {number : ℕ} → digest ≡ message_digest set message
     → Answered (work_tests set public digest signature) number → Answered (work_tests set public (message_digest set message) signature) number
 digest_answered set public message signature e a = rw e at a
-
-pub check_i : {set : Numbers} (public message signature : List ℕ) {number : ℕ} → set ≡ set_i
-    → Answered (check_tests set public message signature) number → Answered (check_tests set_i public message signature) number
-check_i public message signature e a = rw e at a
-
-pub check_digest_i : {set : Numbers} (public : List ℕ) (len : ℕ) (digest signature : List ℕ) {number : ℕ} → set ≡ set_i
-    → Answered (digest_tests set public len digest signature) number → Answered (digest_tests set_i public len digest signature) number
-check_digest_i public len digest signature e a = rw e at a

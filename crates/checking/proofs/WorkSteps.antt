@@ -1,15 +1,14 @@
 -- Checking after the tests of its inputs: what its parts ask, and that what they compute is what the definitions say.
 --     small_z, z_is, residues_i       z modulo q
 --     g_is, seed_is                   g and seed_a of a public record
---     Turn, turn_none, turn_reads, turn_asks, turn_more, turn_all      the loop over t_1..t_k of a public record
---     each_asks, highs_are            the same for c that is drawn from c'
---     highs_asks, work_answered, work_i      the whole
+--     Turn, turn_none, turn_asks      the loop over t_1..t_k of a public record
+--     each_asks                       the same for c that is drawn from c'
+--     highs_asks, work_answered       the whole
 -- Assumes nothing.
-use mathlib.Core.Path.{◌≡◌, sym, ap, ap₂, subst, ◌∙◌}
+use mathlib.Core.Path.{◌≡◌, sym, ap, ap₂, ◌∙◌}
 use mathlib.Core.Bool.{true}
 use mathlib.Core.List.{List}
-use Prim.Native.Nat.{ℕ, ◌+◌, ◌*◌, ◌-◌, ◌≤◌, ◌<◌, zero-le}
-use native.Mathlib.Nat.{le_antisymm}
+use Prim.Native.Nat.{ℕ, ◌+◌, ◌*◌, ◌-◌, ◌<◌}
 use native.Mathlib.Omega.{arith}
 use borrow.Author.Tests.{leb-true}
 use lib.IntN.{ℤ, pos, nat_abs}
@@ -32,17 +31,16 @@ use Rattle.sampling.specs.Residues.{made_residues}
 use Rattle.records.specs.Layout.{t_bytes, z_bytes, public_bytes, signature_bytes}
 use Rattle.records.specs.Public.{t_of, all_t, seed_a_of, t_in_range}
 use Rattle.records.specs.PublicLaws.{t_of_length, all_t_polynomial, polynomial_below, t_in_range_below}
-use Rattle.records.specs.Asks.{ReadsT}
 use Rattle.signatures.specs.Signature.{z_of, challenge_of, z_in_range}
 use Rattle.signatures.specs.Laws.{z_of_length}
 use Rattle.highs.specs.declared.Highs.{Highs}
 use Rattle.highs.specs.Highs.{Held}
 use Rattle.checking.specs.declared.hash.Walk.{Walk}
 use Rattle.checking.specs.Check.{public_g, work_tests}
-use Rattle.checking.specs.Asks.{ForT, ForEachT, ForHighs, ForResidues, ForResiduesIn, Tested, ForWork}
-use Rattle.checking.specs.Steps.{highs_upto, highs_of_record, Begun, OneMore, Walked, Judged}
+use Rattle.checking.specs.Asks.{ForT, ForEachT, ForHighs, ForResidues, ForResiduesIn, ForWork}
+use Rattle.checking.specs.Steps.{highs_of_record, Begun, Walked, Judged}
 use Rattle.sampling.proofs.DrawnLengths.{enc_terms}
-use Rattle.checking.specs.StepsLaws.{walked_none, walked_asks, walked_more, hash_answered}
+use Rattle.checking.specs.StepsLaws.{walked_none, walked_asks, hash_answered}
 
 -- ---- z
 
@@ -100,57 +98,26 @@ t_below set public inside i l =
     rw (← all_t_polynomial set public i l)
     (polynomial_below set.q set.n i (all_t set public) (t_in_range_below set (all_t set public) inside))
 
--- between two turns
-pub record Turn (set : Numbers) (public zr ps : List ℕ) (ss : List ℤ) (t : List ℕ) (walk : Walk) (i : ℕ) : Type 0 where
-  pub within : i ≤ set.k
-  -- the next i fits a word
-  pub few : set.k ≤ 255
-  pub walked : Walked set (seed_a_of set public) (t_of set public) zr ps ss i walk
-  pub t_long : length t ≡ set.n
+-- before t_1, between two turns, after t_k
+abbrev pub Turn : Numbers → List ℕ → List ℕ → List ℕ → List ℤ → Walk → ℕ → Type 0
+Turn set public zr ps ss walk i = Walked set (seed_a_of set public) (t_of set public) zr ps ss i walk
 
 pub turn_none : {set : Numbers} {public zr ps : List ℕ} {ss : List ℤ} {t : List ℕ} {from : ℕ} {walk : Walk} → ForEachT set public zr ps ss t
-    → from ≡ 2 + set.k * t_bytes set → Begun set (take (length public - from) (drop from public)) walk → Turn set public zr ps ss t walk 0
-turn_none {set} {public} asked e b =
-    record {
-      within = zero-le;
-      few = asked.for_highs.good.k_few;
-      walked = walked_none (rw (seed_is set public e asked.for_highs.public_long) at b);
-      t_long = asked.for_highs.t_long;
-    }
+    → from ≡ 2 + set.k * t_bytes set → Begun set (take (length public - from) (drop from public)) walk → Turn set public zr ps ss walk 0
+turn_none {set} {public} asked e b = walked_none (rw (seed_is set public e asked.for_highs.public_long) at b)
 
-module _ {set : Numbers} {public zr ps : List ℕ} {ss : List ℤ} {t : List ℕ} {walk : Walk} {i : ℕ}
-    (turn : Turn set public zr ps ss t walk i) (l : i < set.k) where
-  pub turn_reads : {t₀ : List ℕ} → ForEachT set public zr ps ss t₀ → ReadsT set public i t
-  turn_reads asked = record { good = asked.for_highs.good; long = asked.for_highs.public_long; inside = l; room = turn.t_long }
-
-  module _ {t₁ : List ℕ} (e : t₁ ≡ t_of set public i) where
-    t₁-long : length t₁ ≡ set.n
-    t₁-long = ap length e ∙ t_of_length set public i
-
-    pub turn_asks : {t₀ : List ℕ} → ForEachT set public zr ps ss t₀ → ForT set walk.draw t₁ zr ps ss
-    turn_asks asked =
-        walked_asks turn.walked l asked.for_highs.good
-        (record { long = t₁-long; below = rw e (t_below set public asked.for_highs.t_inside i l) })
-        asked.for_highs.z_is asked.c_is
-
-    pub turn_more : {next : Walk} → OneMore set walk t₁ zr ps ss next → Turn set public zr ps ss t₁ next (i + 1)
-    turn_more more = record { within = omega arith; few = turn.few; walked = walked_more turn.walked l e more; t_long = t₁-long }
-
-pub turn_all : {set : Numbers} {public zr ps : List ℕ} {ss : List ℤ} {t : List ℕ} {walk : Walk} {i : ℕ}
-    → Turn set public zr ps ss t walk i → set.k ≤ i → Held set (highs_upto set (seed_a_of set public) (t_of set public) zr ps ss set.k) walk.highs
-turn_all {set} {public} {zr} {ps} {ss} {walk = walk} turn l =
-    subst (λ (j : ℕ). Held set (highs_upto set (seed_a_of set public) (t_of set public) zr ps ss j) walk.highs) (le_antisymm turn.within l)
-    turn.walked.highs_are
+pub turn_asks : {set : Numbers} {public zr ps t t₀ : List ℕ} {ss : List ℤ} {walk : Walk} {i : ℕ} → Turn set public zr ps ss walk i
+    → ForEachT set public zr ps ss t₀ → i < set.k → t ≡ t_of set public i → ForT set walk.draw t zr ps ss
+turn_asks {set} {public} {i = i} turn asked l e =
+    walked_asks turn l asked.for_highs.good
+    (record { long = ap length e ∙ t_of_length set public i; below = rw e (t_below set public asked.for_highs.t_inside i l) })
+    asked.for_highs.z_is asked.c_is
 
 -- ---- c
 
 pub each_asks : {set : Numbers} {public zr t ps : List ℕ} {ss : List ℤ} (c' : List ℕ) → ForHighs set public zr t → AreDrawn (enc_of set c') ps ss
     → ForEachT set public zr ps ss t
 each_asks c' asked drawn = record { for_highs = asked; c_is = enc_terms _ asked.good c' drawn }
-
-pub highs_are : {set : Numbers} (public c' zr : List ℕ) {ps : List ℕ} {ss : List ℤ} {highs : Highs} → AreDrawn (enc_of set c') ps ss
-    → Held set (highs_upto set (seed_a_of set public) (t_of set public) zr ps ss set.k) highs → Held set (highs_of_record set public zr c') highs
-highs_are public c' zr drawn held = rw (← drawn.places_are, ← drawn.signs_are) held
 
 -- ---- the whole
 
@@ -183,7 +150,3 @@ module _ {set : Numbers} {public signature zr₀ t : List ℕ} (known : Known se
 
       challenge : take (length signature - (bytes - seed_bytes)) (drop (bytes - seed_bytes) signature) ≡ challenge_of set signature
       challenge = ap₂ (λ m i. take m (drop i signature)) long from
-
-pub work_i : {set : Numbers} {public signature zr t : List ℕ} → set ≡ set_i → Tested set public signature → length zr ≡ 1024 → length t ≡ 1024
-    → ForWork set public signature zr t
-work_i e tested zr t = record { tested = tested; zr_long = rw e zr; t_long = rw e t }

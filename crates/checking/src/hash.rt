@@ -111,20 +111,11 @@ pub(crate) fn add_t(
 }
 
 // Whether a and b hold the same bytes.
+#[tactic(auto, using(crate::proofs::Same::same_is))]
 fn same_bytes(a: &[u8], b: &[u8]) -> bool
     ensures { result ≡ same_bytes a.now b.now }
 {
-    if a.len() != b.len() {
-        return false;
-    }
-    let mut at = 0;
-    while at < a.len() {
-        if a[at] != b[at] {
-            return false;
-        }
-        at += 1;
-    }
-    true
+    a == b
 }
 
 // The tests 10 and 11: every high part fits its byte, and H of them, of G of the message and of g is c'.

@@ -69,15 +69,11 @@ fn each_t(
     requires { ForEachT set.numbers public.now zr.now positions.now signs.now t.old }
     ensures { Held set.numbers (highs_upto set.numbers (seed_a_of set.numbers public.now) (t_of set.numbers public.now) zr.now positions.now signs.now set.numbers.k) result }
 {
-    let k = set.numbers.k;
     let from = records::public::seed_start(set.numbers);
     let mut walk = begin(set.numbers, &public[from..]);
-    let mut i = 0;
-    while i < k {
+    for i in 0..set.numbers.k {
         records::public::unpack_t(set.numbers, public, i, t);
-        let next = add_t(set, walk, t, zr, positions, signs);
-        walk = next;
-        i += 1;
+        walk = add_t(set, walk, t, zr, positions, signs);
     }
     walk.highs
 }
