@@ -30,7 +30,7 @@ pub fn message_digest(set: Numbers, message: &[u8], out: &mut [u8])
     requires { Digest set digest_bytes (length out.old) }
     ensures { out.new ≡ message_digest set message.now }
 {
-    joined_digest(set, &message[..0], message, out)
+    joined_digest(set, &[], message, out)
 }
 
 // g of the packed t_1..t_k, into out.

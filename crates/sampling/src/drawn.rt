@@ -34,6 +34,7 @@ fn draw_less(start: Sponge, bits: u32, b: u32, out: &mut [i32])
     let mut buffer = [0u8; 408];
     let mut left = 2 * out.len();
     let mut at = 0;
+    // a while: a stretch says itself how many places it filled
     while at < out.len() {
         let k = left.min(136);
         let stretch = &mut buffer[..3 * k];
@@ -62,6 +63,7 @@ fn draw_positions(start: Sponge, n: u32, bits: u32, positions: &mut [u16], signs
     let mut buffer = [0u8; 408];
     let mut left: usize = 256;
     let mut at = 0;
+    // a while: a stretch says itself how many places it filled
     while at < positions.len() {
         let k = left.min(136);
         let stretch = &mut buffer[..3 * k];
@@ -119,6 +121,7 @@ pub fn next_a(set: Numbers, d: DrawA, out: &mut [u32]) -> DrawA
     } = d;
     let mut buffer = [0u8; 408];
     let mut at = 0;
+    // a while: a stretch says itself how many places it filled
     while at < out.len() {
         let k = (out.len() - at).min(102);
         let stretch = &mut buffer[..4 * k];
