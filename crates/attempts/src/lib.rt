@@ -14,7 +14,7 @@ use highs::Highs;
 use sets::{DIGEST_BYTES, Numbers, SEED_BYTES, Set, SetI};
 
 // What an attempt comes to.
-#[derive(Drop)]
+#[derive(Clone, Copy, Debug, PartialEq, Eq)]
 pub enum Tried {
     // every test passes: the signature record is written
     Passes,

@@ -20,7 +20,7 @@ pub const HEAD_BYTES: usize = 6;
 fn number(low: u8, high: u8) -> u16
     ensures { result ≡ low + 256 * high }
 {
-    (low as u16) + 256 * (high as u16)
+    u16::from_le_bytes([low, high])
 }
 
 // The team number.
@@ -41,7 +41,7 @@ pub(crate) fn team_bytes(envelope: &[u8]) -> [u8; 2]
 pub(crate) fn length_of(envelope: &[u8]) -> usize
     ensures { result ≡ length_of envelope.now }
 {
-    number(pieces::byte_at(envelope, 4), pieces::byte_at(envelope, 5)) as usize
+    usize::from(number(pieces::byte_at(envelope, 4), pieces::byte_at(envelope, 5)))
 }
 
 // Whether total is the length of an envelope around a roster of len bytes, by a difference: no sum with len is made.
@@ -50,11 +50,7 @@ pub(crate) fn is_total(set: Numbers, len: usize, total: usize) -> bool
     ensures { result ≡ eqb total (envelope_bytes set len) }
 {
     let around = HEAD_BYTES + signatures::signature_bytes(set);
-    if total < around {
-        false
-    } else {
-        total - around == len
-    }
+    around <= total && total - around == len
 }
 
 // The tests of L: its limit, and the total.

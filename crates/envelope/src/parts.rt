@@ -11,16 +11,8 @@ use sets::Numbers;
 pub(crate) fn stretch_of(bytes: &[u8], start: usize, size: usize) -> &[u8]
     ensures { result.now ≡ stretch start size bytes.now }
 {
-    let len = bytes.len();
-    if start < len {
-        if size < len - start {
-            &bytes[start..start + size]
-        } else {
-            &bytes[start..]
-        }
-    } else {
-        &bytes[..0]
-    }
+    let rest = &bytes[start.min(bytes.len())..];
+    &rest[..size.min(rest.len())]
 }
 
 // The signature record after a roster of len bytes. What follows the head is taken first, so that no sum with len is made.

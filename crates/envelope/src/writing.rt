@@ -55,6 +55,7 @@ fn put_envelope(set: Numbers, team: u16, roster: &[u8], signature: &[u8], envelo
 {
     let len = roster.len();
     pieces::write_mark(set, head::ENVELOPE_KIND, envelope);
+    // `as`, since std has no From for it: the check proves that nothing is lost.
     put_numbers(team, len as u16, envelope);
     pieces::copy_at(roster, envelope, HEAD_BYTES);
     pieces::copy_at(signature, envelope, HEAD_BYTES + len);

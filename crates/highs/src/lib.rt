@@ -15,7 +15,7 @@ use shake::Sponge;
 pub struct Highs {
     // the state of stream 6 that has absorbed them
     pub state: Sponge,
-    // whether each of them fits a signed byte
+    // whether each of them fits a signed byte; the state is promised either way, so this is no Option
     pub fit: bool,
 }
 

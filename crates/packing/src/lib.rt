@@ -19,6 +19,7 @@ pub fn low(acc: u64, b: u32) -> u32
     requires { b ≤ 32 }
     ensures { result ≡ acc % 2 ^ b }
 {
+    // `as`, since std has no From for it: the check proves that nothing is lost.
     (acc & ((1 << b) - 1)) as u32
 }
 

@@ -18,6 +18,7 @@ fn value_of(x: u32, b: u32) -> i32
     ensures { result ≡ signed b x }
 {
     if x < 1 << (b - 1) {
+        // `as`, since std has no From for it: the check proves that nothing is lost.
         x as i32
     } else {
         (i64::from(x) - (1 << b)) as i32

@@ -5,8 +5,8 @@ ghost use Rattle.records.specs.Choice.{set_of, own_set};
 use crate::pieces;
 use sets::{Numbers, Parameters, SetI, SetIII};
 
-// The set by which a record of this kind is judged: set III's where it has set III's mark, else set I's. The mark is unknown where the record is not
-// marked as one of that set.
+// The set by which a record of this kind is judged: set III's where it has set III's mark, else set I's. The mark is unknown where the
+// record is not marked as one of that set. A kind is the record's number, of any size, as in `pieces`.
 #[tactic(auto, using(crate::proofs::PieceLaws::set_third, crate::proofs::PieceLaws::set_first))]
 pub fn set_of(kind: u8, bytes: &[u8]) -> Numbers
     ensures { result ≡ set_of kind bytes.now }

@@ -20,7 +20,7 @@ pub fn copy_out(from: &[u8], at: usize, to: &mut [u8])
     to.copy_from_slice(&from[at..at + len]);
 }
 
-// Writes the mark of record j into the front of out. What follows stays.
+// Writes the mark of record j into the front of out. What follows stays. j is a number, since the promise is of every j that fits the mark.
 pub fn write_mark(set: sets::Numbers, j: u8, out: &mut [u8])
     requires { Marks set j out.old }
     ensures { out.new ≡ mark set j ++ drop 2 out.old }
@@ -35,7 +35,7 @@ pub fn byte_at(bytes: &[u8], i: usize) -> u8
     bytes.get(i).copied().unwrap_or(0)
 }
 
-// Whether bytes begin with the mark of record j.
+// Whether bytes begin with the mark of record j: of any number j, as the promise has it.
 #[tactic(auto, unfolding(crate::specs::Layout::marked))]
 pub fn is_marked(set: sets::Numbers, j: u8, bytes: &[u8]) -> bool
     ensures { result ≡ marked set j bytes.now }

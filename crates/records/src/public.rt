@@ -18,6 +18,7 @@ pub fn t_bytes(set: Numbers) -> usize
     requires { Good set }
     ensures { result ≡ t_bytes set }
 {
+    // `as`, since std has no From for it: the check proves that nothing is lost.
     (set.t_bits as usize * set.n).div_ceil(8)
 }
 

@@ -35,6 +35,7 @@ fn row(a: &[u32], b: &[u32], q: u32, multiple: u64, k: usize) -> u32
     let (b_upto, b_above) = b.split_at(k + 1);
     let wrapped = fold(a_above, b_above, 0, multiple);
     let sum = fold(a_upto, b_upto, multiple - wrapped, multiple);
+    // `as`, since std has no From for it: the check proves that nothing is lost.
     (sum % u64::from(q)) as u32
 }
 

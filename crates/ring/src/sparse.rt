@@ -1,4 +1,5 @@
-// The product by a sparse polynomial c, given as positions with signs: modulo q, and exactly for signed bytes.
+// The product by a sparse polynomial c, given as positions with signs, in the two arrays that sampling fills for C too: modulo q, and exactly
+// for signed bytes.
 ghost use Rattle.std.specs.Prelude.{◌≡◌, ℤ, ◌<◌, ◌^◌, length, map, pos, nat_abs};
 ghost use Rattle.whole.specs.Table.{table};
 ghost use Rattle.whole.specs.Twos.{signed};
@@ -66,6 +67,7 @@ pub fn times(t: &[u32], q: u32, positions: &[u16], signs: &[i8], out: &mut [u32]
     ensures { out.new ≡ residues q (length out.old) (mul (length out.old) (naturals t.now) (sparse positions.now signs.now)) }
 {
     for (k, place) in out.iter_mut().enumerate() {
+        // `as`, since std has no From for it: the check proves that nothing is lost.
         *place = row(t, positions, signs, k).rem_euclid(i64::from(q)) as u32;
     }
 }

@@ -14,6 +14,7 @@ fn negative(m: u32) -> i32
     requires { m < 2 ^ 31 }
     ensures { result ≡ neg_ℤ (pos m) }
 {
+    // `as`, since std has no From for it: the check proves that nothing is lost.
     -(m as i32)
 }
 

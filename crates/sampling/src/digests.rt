@@ -22,7 +22,11 @@ pub fn joined_digest(set: Numbers, front: &[u8], rest: &[u8], out: &mut [u8])
     requires { Digest set digest_bytes (length out.old) }
     ensures { out.new ≡ message_digest set (front.now ++ rest.now) }
 {
-    close_message(set, set.fresh(Stream::Message).absorb(front).absorb(rest), out)
+    close_message(
+        set,
+        set.fresh(Stream::Message).absorb(front).absorb(rest),
+        out,
+    )
 }
 
 // G of the message, into out.

@@ -21,7 +21,9 @@ fn start_y(set: Numbers, rand: &[u8], counter: u16) -> Sponge
     requires { set.digit < 16 }
     ensures { result ≡ absorbed (fresh set.digit 2) (rand.now ++ two_bytes counter) }
 {
-    set.fresh(Stream::Y).absorb(rand).absorb(&two_bytes(counter))
+    set.fresh(Stream::Y)
+        .absorb(rand)
+        .absorb(&two_bytes(counter))
 }
 
 // The values from 0 to 2b of twice as many candidates as out has places, squeezed at most 136 at a time, each less b, into out.
@@ -79,6 +81,7 @@ pub fn draw_enc(set: Numbers, c: &[u8], positions: &mut [u16], signs: &mut [i8])
     ensures { AreDrawn (enc_of set c.now) positions.new signs.new }
 {
     let start = set.fresh(Stream::Enc).absorb(c);
+    // `as`, since std has no From for it: the check proves that nothing is lost.
     draw_positions(start, set.n as u32, set.position_bits, positions, signs)
 }
 

@@ -113,6 +113,7 @@ fn less(v: u32, b: u32) -> i32
     requires { (v ≤ 2 * b) × (b < 2 ^ 31) }
     ensures { result ≡ less_of b v }
 {
+    // `as`, since std has no From for it: the check proves that nothing is lost.
     (i64::from(v) - i64::from(b)) as i32
 }
 
@@ -294,7 +295,7 @@ pub fn take_y(stream: &[u8], out: &mut [i32]) -> Result<(), Refusal>
     lent_y(SetI::numbers(), stream, out)
 }
 
-// Positions with signs from a lent stream, as many as there are places: candidates of 3 bytes, low 10 bits.
+// Positions with signs from a lent stream, as many as there are places: candidates of 3 bytes, low 10 bits. In two arrays, as C lends them.
 pub fn take_positions(stream: &[u8], positions: &mut [u16], signs: &mut [i8]) -> Result<(), Refusal>
     ensures { TakesPositions set_i stream.now positions.old signs.old positions.new signs.new (number_of result) }
 {

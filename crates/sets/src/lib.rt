@@ -26,7 +26,8 @@ pub const ROSTER_LIMIT: usize = 32766;
 // The largest budget of counters.
 pub const BUDGET_LIMIT: u32 = 1024;
 
-// What a part of the scheme takes from its set.
+// What a part of the scheme takes from its set. That they are good is a clause of the functions that need it, and not a fact of the type:
+// others take any numbers.
 #[derive(Clone, Copy)]
 pub struct Numbers {
     // coefficients of a polynomial
@@ -51,7 +52,7 @@ pub struct Numbers {
     pub z_bits: u32,
     // bits of a position
     pub position_bits: u32,
-    // the first digit of the second byte of each mark
+    // the first digit of the second byte of each mark, a number since the marks hold it
     pub digit: u8,
 }
 
@@ -227,7 +228,7 @@ impl Parameters for SetIII {
     };
 }
 
-// One of the sets that the entries work in.
+// One of the sets that the entries work in. Where scratch is made the set is chosen by its digit: an enum beside it would say the same twice.
 #[derive(Clone, Copy)]
 pub struct Set {
     pub numbers: Numbers,

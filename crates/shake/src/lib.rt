@@ -14,7 +14,7 @@ pub struct Sponge {
     pub lanes: [u64; 25],
     // the place in the block of the byte that comes next, 0 to 135
     pub place: usize,
-    // whether absorbing has ended
+    // whether absorbing has ended: a value and no type, since every method takes every state
     pub squeezing: bool,
 }
 
@@ -45,6 +45,7 @@ fn byte_at(lanes: &[u64; 25], p: usize) -> u8
     requires { p < RATE }
     ensures { result ≡ byte_at lanes.now p }
 {
+    // `as`, since std has no From for it: the check proves that nothing is lost.
     (lanes[p / 8] >> (8 * (p % 8)) & 0xff) as u8
 }
 

@@ -26,6 +26,7 @@ fn z_bytes(set: Numbers) -> usize
     requires { Good set }
     ensures { result ≡ z_bytes set }
 {
+    // `as`, since std has no From for it: the check proves that nothing is lost.
     (set.z_bits as usize * set.n).div_ceil(8)
 }
 

@@ -13,11 +13,7 @@ use sets::{Numbers, SEED_BYTES};
 fn is_short(front: usize, rest: usize) -> bool
     ensures { result ≡ leb (front + rest) message_limit }
 {
-    if sets::MESSAGE_LIMIT < front {
-        false
-    } else {
-        rest <= sets::MESSAGE_LIMIT - front
-    }
+    front <= sets::MESSAGE_LIMIT && rest <= sets::MESSAGE_LIMIT - front
 }
 
 // The tests 1 to 7: of a secret record, of a message in two pieces and of r by their lengths, and of the budget.

@@ -23,6 +23,7 @@ fn search(
     requires { Searches set.numbers secret.now a.now budget signature.old }
     ensures { Gives set.numbers 0 (search (attempt set.numbers (key_of set.numbers secret.now) digest.now rand.now) budget) signature.old signature.new (number_of result) (counter_of result) }
 {
+    // `as`, since std has no From for it: the check proves that nothing is lost.
     for counter in 1..budget as u16 + 1 {
         match attempts::attempt(set, secret, a, digest, rand, counter, signature) {
             Tried::Passes => return Ok(counter),

@@ -17,6 +17,7 @@ pub fn word(s: &[u8], i: usize) -> u32 {
 
 // The same modulo 65,536.
 pub fn short(s: &[u8], i: usize) -> u16 {
+    // `as`, since std has no From for it: the check proves that nothing is lost.
     (word(s, i) & 0xffff) as u16
 }
 

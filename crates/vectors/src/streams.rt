@@ -118,7 +118,9 @@ fn rand(rt: &impl Print, given: &[u8]) -> io::Result<()> {
 
 fn challenge(rt: &impl Print, given: &[u8]) -> io::Result<()> {
     let mut out = [0; 32];
-    let highs = SetI::numbers().fresh(Stream::Challenge).absorb(bytes::rest(given, 80));
+    let highs = SetI::numbers()
+        .fresh(Stream::Challenge)
+        .absorb(bytes::rest(given, 80));
     sampling::digests::challenge_of(
         highs,
         bytes::part(given, 0, 40),
