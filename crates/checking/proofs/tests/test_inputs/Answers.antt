@@ -1,6 +1,5 @@
 -- The goals of `checking::tests::test_inputs` that want an answer by hand. The tests in document 01's order. Assumes nothing.
 use borrow.Author.Rules.{rules}
-use borrow.Author.Tests.{le-leb, lt-leb}
 use Rattle.answers.specs.TestLaws.{tests}
 use Rattle.checking.specs.Check.{input_tests}
 use Rattle.checking.proofs.tests.test_inputs.Goals as goal
