@@ -56,8 +56,8 @@ pub refusal_one : (a b : Refusal) → refusal_number a ≡ refusal_number b → 
 refusal_one = one_to_one refusal_with back
 
 -- a refusal is not the number 0
-pub refused : (r : Refusal) → refusal_number r ≡ 0 → ⊥
-refused r e = absurd (omega (arith, ltb-true 0 (refusal_number r) (go r), e))
+pub refusal_some : (r : Refusal) → refusal_number r ≡ 0 → ⊥
+refusal_some r e = absurd (omega (arith, ltb-true 0 (refusal_number r) (go r), e))
   where
     go : (r : Refusal) → ltb 0 (refusal_number r) ≡ true
     go Length = refl
@@ -75,8 +75,8 @@ refused r e = absurd (omega (arith, ltb-true 0 (refusal_number r) (go r), e))
 -- what an entry answers is told by its number and by what comes with it
 pub answer_one : {A : Type 0} (a b : Result A Refusal) → number_of a ≡ number_of b → ((x y : A) → a ≡ Ok x → b ≡ Ok y → x ≡ y) → a ≡ b
 answer_one (Ok x) (Ok y) e same = ap Ok (same x y refl refl)
-answer_one (Ok x) (Err s) e same = absurd (refused s (sym e))
-answer_one (Err r) (Ok y) e same = absurd (refused r e)
+answer_one (Ok x) (Err s) e same = absurd (refusal_some s (sym e))
+answer_one (Err r) (Ok y) e same = absurd (refusal_some r e)
 answer_one (Err r) (Err s) e same = ap Err (refusal_one r s e)
 
 pub number_one : (a b : Result Unit Refusal) → number_of a ≡ number_of b → a ≡ b

@@ -7,7 +7,7 @@ use Rattle.std.specs.Prelude.{◌≡◌, refl, true, List, ◌++◌, ℕ, zero, 
 use Rattle.std.proofs.Common.{sym, ◌∙◌}
 use Rattle.std.proofs.lemmas.Result.{err_from_is_err_and}
 use Rattle.answers.specs.declared.Refusal.{Refusal}
-use Rattle.answers.specs.Answers.{refusal_number, refused, number_of}
+use Rattle.answers.specs.Answers.{refusal_number, refusal_some, number_of}
 use Rattle.answers.specs.Tests.{Test, numbered, AllPass, Answered, Output}
 use Rattle.answers.specs.TestLaws.{answer_before, answer_past, passes_all, after_other}
 
@@ -24,10 +24,10 @@ module _ {ts : List Test} where
     answered_err r e = let p = err_from_is_err_and r e in rw (p.1, p.2) a
 
     pub kept_err : {A : Type 0} {new old : A} → Output ts new old old
-    kept_err {new = new} {old} = record { is = sym (after_other new old (λ z. refused refusal (a.is ∙ z))) }
+    kept_err {new = new} {old} = record { is = sym (after_other new old (λ z. refusal_some refusal (a.is ∙ z))) }
 
     pub before_err : (ys : List Test) → Answered (ts ++ ys) (refusal_number refusal)
-    before_err ys = go (refusal_number refusal) (refused refusal) a
+    before_err ys = go (refusal_number refusal) (refusal_some refusal) a
       where
         go : (n : ℕ) → (n ≡ 0 → ⊥) → Answered ts n → Answered (ts ++ ys) n
         go zero h b = absurd (h refl)

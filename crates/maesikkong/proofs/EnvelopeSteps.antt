@@ -4,7 +4,7 @@ use mathlib.Core.List.{List}
 use Prim.Native.Nat.{ℕ}
 use Rattle.std.specs.Prelude.{Result, Ok, Err}
 use Rattle.answers.specs.declared.Refusal.{Refusal}
-use Rattle.answers.specs.Answers.{refusal_number, refused, number_of}
+use Rattle.answers.specs.Answers.{refusal_number, refusal_some, number_of}
 use Rattle.answers.specs.Tests.{Test, after}
 use Rattle.answers.specs.TestLaws.{after_other}
 use Rattle.envelope.specs.Envelope.{head_bytes}
@@ -19,7 +19,7 @@ handed_ok r e = rw e (record { number_is = refl; team_is = refl; start_is = refl
 pub handed_err : (r : Result Opened Refusal) {refusal : Refusal} {number : ℕ} → r ≡ Err refusal → number ≡ refusal_number refusal → HandsOut r number 0 0 0
 handed_err r {refusal} e n =
     rw (e, n)
-    (record { number_is = refl; team_is = refl; start_is = sym (after_other head_bytes 0 (refused refusal)); len_is = refl })
+    (record { number_is = refl; team_is = refl; start_is = sym (after_other head_bytes 0 (refusal_some refusal)); len_is = refl })
 
 pub opens_at : {ts : List Test} {envelope : List ℕ} (r : Result Opened Refusal) {number team start len : ℕ}
     → Opens ts envelope (number_of r) (opened_team r) (opened_len r) → HandsOut r number team start len → OpensAt ts envelope number team start len

@@ -13,7 +13,7 @@ use Rattle.whole.specs.Every.{every}
 use Rattle.whole.specs.TestsAlike.{leb_alike}
 use Rattle.answers.specs.Tests.{answer, Answered, AllPass}
 use Rattle.answers.specs.declared.Refusal.{Refusal}
-use Rattle.answers.specs.Answers.{refusal_number, refused, number_of}
+use Rattle.answers.specs.Answers.{refusal_number, refusal_some, number_of}
 use Rattle.answers.specs.ResultLaws.{passed_ok}
 use Rattle.sets.specs.declared.Numbers.{Numbers}
 use Rattle.sets.specs.Good.{Good}
@@ -83,7 +83,7 @@ module _ (set : Numbers) (secret r old : List ℕ) (budget messageLength : ℕ) 
         → (signed : Result ℕ Refusal) → IsErrAnd signed (λ other. other ≡ refusal) → Signs set secret message r budget old old (number_of signed) (counter_of signed)
     sign_refused refusal t signed e =
         let p = err_from_is_err_and signed e in
-        rw (p.1, p.2) (go (refusal_number refusal) (refused refusal) (rw (← long) t.is))
+        rw (p.1, p.2) (go (refusal_number refusal) (refusal_some refusal) (rw (← long) t.is))
       where
         go : (n : ℕ) → (n ≡ 0 → ⊥) → n ≡ answer (sign_tests set secret (length message) (length r) budget (length old))
             → Signs set secret message r budget old old n 0
