@@ -1,5 +1,5 @@
 -- What a set's numbers have to satisfy: all that the code and the theorems ask of them. Each comment says what it is for.
--- A set is added by proving them of its numbers, by a case of `Known`, and by an arm where scratch is made.
+-- A set is added by proving them of its numbers, by a case of `Known` with its `Set`, and by an arm where scratch is made.
 -- Assumes nothing: these are definitions.
 use Rattle.std.specs.Prelude.{◌≡◌, ℕ, ◌+◌, ◌*◌, ◌-◌, ◌/◌, ◌%◌, ◌^◌, ◌≤◌, ◌<◌}
 use Rattle.sets.specs.declared.Numbers.{Numbers}
