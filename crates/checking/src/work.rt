@@ -3,7 +3,6 @@ ghost use Rattle.std.specs.Prelude.{◌≡◌};
 ghost use Rattle.answers.specs.Answers.{number_of};
 ghost use Rattle.answers.specs.Tests.{Answered};
 ghost use Rattle.ring.specs.Lists.{integers, residues};
-ghost use Rattle.sets.specs.Good.{Good};
 ghost use Rattle.records.specs.Public.{t_of, seed_a_of};
 ghost use Rattle.signatures.specs.Signature.{z_of};
 ghost use Rattle.highs.specs.Highs.{Held};
@@ -26,14 +25,13 @@ fn z_residues_in(set: Numbers, signature: &[u8], z: &mut [i32], zr: &mut [u32])
 }
 
 // The same with a place of its own for z.
-fn z_residues_of<const N: usize>(set: Numbers, signature: &[u8], zr: &mut [u32])
-    requires good { Good set }
-    requires n_is { set.n ≡ N }
-    requires for_residues { ForResidues set signature.now zr.old }
-    ensures { zr.new ≡ residues set.q set.n (integers (z_of set signature.now)) }
+fn z_residues_of<const N: usize>(set: Set, signature: &[u8], zr: &mut [u32])
+    requires n_is { set.numbers.n ≡ N }
+    requires for_residues { ForResidues set.numbers signature.now zr.old }
+    ensures { zr.new ≡ residues set.numbers.q set.numbers.n (integers (z_of set.numbers signature.now)) }
 {
     let mut z = [0i32; N];
-    z_residues_in(set, signature, &mut z, zr);
+    z_residues_in(set.numbers, signature, &mut z, zr);
 }
 
 // The same in every set that there is.
@@ -43,7 +41,7 @@ fn z_residues(set: Set, signature: &[u8], zr: &mut [u32])
     ensures { zr.new ≡ residues set.numbers.q set.numbers.n (integers (z_of set.numbers signature.now)) }
 {
     match set.numbers.digit {
-        1 => z_residues_of::<{ SetI::N }>(set.numbers, signature, zr),
+        1 => z_residues_of::<{ SetI::N }>(set, signature, zr),
         _ => unreachable!(),
     }
 }

@@ -45,14 +45,13 @@ fn add_highs_in(set: Numbers, highs: Highs, v: &[u32], bytes: &mut [u8]) -> High
 }
 
 // The same with scratch of its own.
-fn add_highs_of<const N: usize>(set: Numbers, highs: Highs, v: &[u32]) -> Highs
-    requires good { Good set }
-    requires n_is { set.n ≡ N }
-    requires residues { Residues set v.now }
-    ensures { Adds set highs v.now result }
+fn add_highs_of<const N: usize>(set: Set, highs: Highs, v: &[u32]) -> Highs
+    requires n_is { set.numbers.n ≡ N }
+    requires residues { Residues set.numbers v.now }
+    ensures { Adds set.numbers highs v.now result }
 {
     let mut bytes = [0u8; N];
-    add_highs_in(set, highs, v, &mut bytes)
+    add_highs_in(set.numbers, highs, v, &mut bytes)
 }
 
 // The same in every set that there is.
@@ -62,7 +61,7 @@ pub fn add_highs(set: Set, highs: Highs, v: &[u32]) -> Highs
     ensures { Adds set.numbers highs v.now result }
 {
     match set.numbers.digit {
-        1 => add_highs_of::<{ SetI::N }>(set.numbers, highs, v),
+        1 => add_highs_of::<{ SetI::N }>(set, highs, v),
         _ => unreachable!(),
     }
 }

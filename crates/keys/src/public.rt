@@ -1,6 +1,5 @@
 // t_i = a_i s + e_i, one i after another, each into its own stretch of the public record.
 ghost use Rattle.std.specs.Prelude.{◌≡◌};
-ghost use Rattle.sets.specs.Good.{Good};
 ghost use Rattle.keys.specs.Asks.{Places, ForT, ForNext, ForOne, ForPut, ForPublic};
 ghost use Rattle.keys.specs.Key.{sum_of, public_of};
 ghost use Rattle.keys.specs.Promises.{OneMore, PutsOne, PutsT};
@@ -61,22 +60,21 @@ fn put_next_in(
 
 // The same with places of its own for the polynomials.
 fn put_next_of<const N: usize>(
-    set: Numbers,
+    set: Set,
     draw: DrawA,
     s: &[u8],
     e: &[u8],
     i: usize,
     public: &mut [u8],
 ) -> DrawA
-    requires good { Good set }
-    requires n_is { set.n ≡ N }
-    requires for_one { ForOne set draw s.now e.now i public.old }
-    ensures { PutsOne set draw s.now e.now i public.old public.new result }
+    requires n_is { set.numbers.n ≡ N }
+    requires for_one { ForOne set.numbers draw s.now e.now i public.old }
+    ensures { PutsOne set.numbers draw s.now e.now i public.old public.new result }
 {
     let mut a = [0u32; N];
     let mut sr = [0u32; N];
     let mut t = [0u32; N];
-    put_next_in(set, draw, s, e, i, &mut a, &mut sr, &mut t, public)
+    put_next_in(set.numbers, draw, s, e, i, &mut a, &mut sr, &mut t, public)
 }
 
 // The same in every set that there is.
@@ -86,7 +84,7 @@ fn put_next(set: Set, draw: DrawA, s: &[u8], e: &[u8], i: usize, public: &mut [u
     ensures { PutsOne set.numbers draw s.now e.now i public.old public.new result }
 {
     match set.numbers.digit {
-        1 => put_next_of::<{ SetI::N }>(set.numbers, draw, s, e, i, public),
+        1 => put_next_of::<{ SetI::N }>(set, draw, s, e, i, public),
         _ => unreachable!(),
     }
 }

@@ -96,14 +96,13 @@ fn t_passes_in(set: Numbers, public: &[u8], scratch: &mut [u32]) -> bool
 }
 
 // The same with scratch of its own, of N places.
-fn t_passes_of<const N: usize>(set: Numbers, public: &[u8]) -> bool
-    requires good { Good set }
-    requires n_is { set.n ≡ N }
-    requires long_public { LongPublic set public.now }
-    ensures { result ≡ t_in_range set (all_t set public.now) }
+fn t_passes_of<const N: usize>(set: Set, public: &[u8]) -> bool
+    requires n_is { set.numbers.n ≡ N }
+    requires long_public { LongPublic set.numbers public.now }
+    ensures { result ≡ t_in_range set.numbers (all_t set.numbers public.now) }
 {
     let mut scratch = [0u32; N];
-    t_passes_in(set, public, &mut scratch)
+    t_passes_in(set.numbers, public, &mut scratch)
 }
 
 // The same in every set that there is.
@@ -113,7 +112,7 @@ pub fn t_passes(set: Set, public: &[u8]) -> bool
     ensures { result ≡ t_in_range set.numbers (all_t set.numbers public.now) }
 {
     match set.numbers.digit {
-        1 => t_passes_of::<{ SetI::N }>(set.numbers, public),
+        1 => t_passes_of::<{ SetI::N }>(set, public),
         _ => unreachable!(),
     }
 }

@@ -92,14 +92,13 @@ fn z_passes_in(set: Numbers, signature: &[u8], scratch: &mut [u32]) -> bool
 }
 
 // The same with scratch of its own.
-fn z_passes_of<const N: usize>(set: Numbers, signature: &[u8]) -> bool
-    requires good { Good set }
-    requires n_is { set.n ≡ N }
-    requires long_signature { LongSignature set signature.now }
-    ensures { result ≡ z_in_range set (z_of set signature.now) }
+fn z_passes_of<const N: usize>(set: Set, signature: &[u8]) -> bool
+    requires n_is { set.numbers.n ≡ N }
+    requires long_signature { LongSignature set.numbers signature.now }
+    ensures { result ≡ z_in_range set.numbers (z_of set.numbers signature.now) }
 {
     let mut scratch = [0u32; N];
-    z_passes_in(set, signature, &mut scratch)
+    z_passes_in(set.numbers, signature, &mut scratch)
 }
 
 // The same in every set that there is.
@@ -109,7 +108,7 @@ pub fn z_passes(set: Set, signature: &[u8]) -> bool
     ensures { result ≡ z_in_range set.numbers (z_of set.numbers signature.now) }
 {
     match set.numbers.digit {
-        1 => z_passes_of::<{ SetI::N }>(set.numbers, signature),
+        1 => z_passes_of::<{ SetI::N }>(set, signature),
         _ => unreachable!(),
     }
 }
@@ -151,14 +150,13 @@ pub fn write_checked(set: Numbers, z: &[i32], c: &[u8], signature: &mut [u8], sc
 }
 
 // The same with scratch of its own.
-fn put_of<const N: usize>(set: Numbers, z: &[i32], c: &[u8], signature: &mut [u8])
-    requires good { Good set }
-    requires n_is { set.n ≡ N }
-    requires puts_signature { PutsSignature set z.now c.now signature.old }
-    ensures { signature.new ≡ signature_record set z.now c.now }
+fn put_of<const N: usize>(set: Set, z: &[i32], c: &[u8], signature: &mut [u8])
+    requires n_is { set.numbers.n ≡ N }
+    requires puts_signature { PutsSignature set.numbers z.now c.now signature.old }
+    ensures { signature.new ≡ signature_record set.numbers z.now c.now }
 {
     let mut scratch = [0u32; N];
-    write_checked(set, z, c, signature, &mut scratch);
+    write_checked(set.numbers, z, c, signature, &mut scratch);
 }
 
 // The same in every set that there is.
@@ -168,7 +166,7 @@ fn put(set: Set, z: &[i32], c: &[u8], signature: &mut [u8])
     ensures { signature.new ≡ signature_record set.numbers z.now c.now }
 {
     match set.numbers.digit {
-        1 => put_of::<{ SetI::N }>(set.numbers, z, c, signature),
+        1 => put_of::<{ SetI::N }>(set, z, c, signature),
         _ => unreachable!(),
     }
 }
@@ -212,14 +210,13 @@ pub fn unpack_z(set: Numbers, signature: &[u8], z: &mut [i32], scratch: &mut [u3
 }
 
 // The same with scratch of its own.
-fn take_z_of<const N: usize>(set: Numbers, signature: &[u8], z: &mut [i32])
-    requires good { Good set }
-    requires n_is { set.n ≡ N }
-    requires takes_z { TakesZ set signature.now z.old }
-    ensures { z.new ≡ z_of set signature.now }
+fn take_z_of<const N: usize>(set: Set, signature: &[u8], z: &mut [i32])
+    requires n_is { set.numbers.n ≡ N }
+    requires takes_z { TakesZ set.numbers signature.now z.old }
+    ensures { z.new ≡ z_of set.numbers signature.now }
 {
     let mut scratch = [0u32; N];
-    unpack_z(set, signature, z, &mut scratch);
+    unpack_z(set.numbers, signature, z, &mut scratch);
 }
 
 // The same in every set that there is.
@@ -229,7 +226,7 @@ fn take_z(set: Set, signature: &[u8], z: &mut [i32])
     ensures { z.new ≡ z_of set.numbers signature.now }
 {
     match set.numbers.digit {
-        1 => take_z_of::<{ SetI::N }>(set.numbers, signature, z),
+        1 => take_z_of::<{ SetI::N }>(set, signature, z),
         _ => unreachable!(),
     }
 }
