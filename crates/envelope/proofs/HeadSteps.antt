@@ -1,40 +1,22 @@
 -- The head of an envelope: its total by a difference, and what a head that passed says of the parts.
 -- Assumes nothing.
 use mathlib.Core.Path.{◌≡◌, sym, ap, ◌∙◌}
-use mathlib.Core.Bool.{false}
 use mathlib.Core.List.{List, [], ◌∷◌}
-use Prim.Native.Nat.{ℕ, ◌+◌, ◌-◌, ◌≤◌, ◌<◌}
+use Prim.Native.Nat.{ℕ, ◌+◌}
 use native.Mathlib.Omega.{arith}
 use lib.Dec.{eqb, leb}
 use lib.ListN.{length}
-use borrow.Author.Tests.{ne_eqb}
 use mir.Syntax.{w64}
 use mir.Val.{Fits}
 use Rattle.whole.specs.Parts.{part_length}
-use Rattle.whole.specs.TestsAlike.{eqb_alike}
 use Rattle.answers.specs.Tests.{◌or_else◌, Answered}
 use Rattle.sets.specs.declared.Numbers.{Numbers}
-use Rattle.sets.specs.Good.{Good}
 use Rattle.sets.specs.Limits.{roster_limit}
 use Rattle.sets.specs.SetI.{set_i}
 use Rattle.records.specs.Layout.{stretch, signature_bytes}
-use Rattle.records.specs.SizeLaws.{z_bits_few}
 use Rattle.signatures.specs.Asks.{LongSignature}
 use Rattle.envelope.specs.Envelope.{head_bytes, envelope_bytes, length_of, head_tests}
 use Rattle.envelope.specs.EnvelopeLaws.{envelope_total, envelope_short}
-
--- ---- the total
-
-module _ (s : Numbers) (len total : ℕ) {size : ℕ} (e : size ≡ signature_bytes s) where
-  pub total_less : total < 6 + size → false ≡ eqb total (envelope_bytes s len)
-  total_less l = sym (ne_eqb total (envelope_bytes s len) (λ f. omega arith))
-
-  pub total_same : 6 + size ≤ total → eqb (total - (6 + size)) len ≡ eqb total (envelope_bytes s len)
-  total_same l = eqb_alike (total - (6 + size)) len total (envelope_bytes s len) (λ h. omega arith) (λ h. omega arith)
-
--- a signature record is short enough for the head to stand before it
-pub around_word : {s : Numbers} {size : ℕ} → Good s → size ≡ signature_bytes s → Fits w64 (6 + size)
-around_word good e = record { fits = omega (arith, z_bits_few good) }
 
 -- ---- the tests
 

@@ -4,7 +4,6 @@ use mathlib.Core.Bool.{Bool, true, ◌&&◌}
 use mathlib.Core.List.{List, [], map, map-map}
 use Prim.Native.Nat.{ℕ}
 use lib.IntN.{pos}
-use lib.ListN.{length}
 use Rattle.whole.specs.Below.{Below}
 use Rattle.whole.specs.Every.{every}
 use Rattle.whole.specs.EveryLaws.{every_map}
@@ -12,19 +11,15 @@ use Rattle.whole.specs.Twos.{twos}
 use Rattle.whole.specs.TwosLaws.{twos_all_below}
 use Rattle.rounding.specs.Parts.{high}
 use Rattle.rounding.specs.Tests.{fits_byte}
-use Rattle.rounding.specs.Asks.{HighBytes}
 use Rattle.shake.specs.declared.Sponge.{Sponge}
 use Rattle.shake.specs.Sponge.{blank, absorbed, squeezed}
 use Rattle.shake.specs.Pieces.{absorbed_absorbed}
 use Rattle.sets.specs.declared.Numbers.{Numbers}
 use Rattle.sets.specs.Good.{Good}
 use Rattle.sets.specs.Marks.{stream_mark, fresh}
-use Rattle.sets.specs.SetI.{set_i, good_i}
-use Rattle.sampling.specs.Residues.{Residues}
 use Rattle.sampling.specs.SpongeLaws.{challenge_squeezed}
 use Rattle.highs.specs.declared.Highs.{Highs}
 use Rattle.highs.specs.Highs.{Held, Adds, Hashes}
-use Rattle.highs.specs.Asks.{Absorbs}
 
 -- a fresh state has absorbed nothing past its mark
 fresh_none : (digit j : ℕ) → fresh digit j ≡ absorbed (fresh digit j) []
@@ -37,16 +32,6 @@ held_none {set} e = record { state_is = e ∙ fresh_none set.digit 6; fit_is = r
 
 -- ---- one polynomial more
 
-pub highs_asked : {set : Numbers} {v bytes : List ℕ} → Absorbs set v bytes → HighBytes set.q set.d v bytes
-highs_asked a =
-    record {
-      below = a.v_is.below;
-      small = a.good.q_small;
-      step = a.good.d_some;
-      fits = a.good.d_fits;
-      exact = a.bytes_long ∙ sym a.v_is.long;
-    }
-
 pub highs_added : {set : Numbers} {before : Highs} (v : List ℕ) {bytes : List ℕ} {fits : Bool} {after : Sponge}
     → fits ≡ every (λ x. fits_byte (high set.q set.d (pos x))) v
     → bytes ≡ map (λ x. twos 8 (high set.q set.d (pos x))) v
@@ -57,9 +42,6 @@ highs_added {set} {before} v ef eb es =
       state_is = es ∙ ap (λ (l : List ℕ). absorbed before.state l) (eb ∙ sym (map-map (twos 8) (λ x. high set.q set.d (pos x)) v));
       fit_is = ap (λ (b : Bool). before.fit && b) (ef ∙ sym (every_map fits_byte (λ x. high set.q set.d (pos x)) v));
     }
-
-pub absorbs_i : {set : Numbers} {v bytes : List ℕ} → set ≡ set_i → Residues set v → length bytes ≡ 1024 → Absorbs set v bytes
-absorbs_i e r l = record { good = good_i e; v_is = r; bytes_long = rw e l }
 
 -- ---- c'
 

@@ -28,8 +28,7 @@ use Rattle.sets.specs.SetI.{set_i, good_i}
 use Rattle.records.specs.Layout.{mark, stretch, z_bytes}
 use Rattle.records.specs.Pieces.{Standing, standing_mark, standing_next, standing_copy, standing_all}
 use Rattle.signatures.specs.Signature.{signature_record, z_bits_of, z_of, challenge_of, z_in_range, signature_tests, read_signature_tests, write_signature_tests}
-use Rattle.signatures.specs.Asks.{RangesBits, LongSignature, ScansZ, UnpacksZ, TakesZ, TakesSignature, WritesPieces, PutsSignature, WritesChecked}
-use Rattle.signatures.specs.Promises.{WritesSignature, ReadsSignature}
+use Rattle.signatures.specs.Asks.{RangesBits, ScansZ, TakesSignature, WritesPieces, PutsSignature, WritesChecked}
 use Rattle.signatures.specs.Laws.{z_in_range_inside}
 
 -- ---- the bits of z
@@ -175,18 +174,6 @@ take_c p e f = f ∙ rw (p.c_long, e)
 -- ---- set I
 
 module _ {s : Numbers} (e : s ≡ set_i) where
-  pub scans_i : {signature scratch : List ℕ} → LongSignature s signature → length scratch ≡ 1024 → ScansZ s signature scratch
-  scans_i p l = record { good = good_i e; signature_long = p.long; scratch_long = rw e l }
-
-  pub unpacks_i : {signature scratch : List ℕ} {z : List ℤ} → TakesZ s signature z → length scratch ≡ 1024 → UnpacksZ s signature z scratch
-  unpacks_i p l =
-      record {
-        good = good_i e;
-        signature_long = p.signature_long;
-        z_long = p.z_long;
-        scratch_long = rw e l;
-      }
-
   pub writes_i : {z : List ℤ} {c' signature scratch : List ℕ} → PutsSignature s z c' signature → length scratch ≡ 1024
       → WritesChecked s z c' signature scratch
   writes_i p l =
@@ -198,11 +185,3 @@ module _ {s : Numbers} (e : s ≡ set_i) where
         signature_long = p.signature_long;
         scratch_long = rw e l;
       }
-
-  -- the promises of the entries
-  pub writes_signature_i : {z : List ℤ} {c' old new : List ℕ} {number : ℕ} → WritesSignature s z c' old new number → WritesSignature set_i z c' old new number
-  writes_signature_i w = rw e at w
-
-  pub reads_signature_i : {signature c' cNew : List ℕ} {z zNew : List ℤ} {number : ℕ}
-      → ReadsSignature s signature z zNew c' cNew number → ReadsSignature set_i signature z zNew c' cNew number
-  reads_signature_i w = rw e at w

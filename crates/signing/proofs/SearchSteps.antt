@@ -1,29 +1,17 @@
 -- The search, one counter after another, and what it found. Assumes nothing.
-use mathlib.Core.Path.{◌≡◌, refl, sym, ap, ◌∙◌}
+use mathlib.Core.Path.{◌≡◌, refl, ap, ◌∙◌}
 use mathlib.Core.List.{List}
-use Prim.Native.Nat.{ℕ, zero, suc, ◌+◌, ◌*◌, ◌≤◌, ◌<◌}
+use Prim.Native.Nat.{ℕ, zero, suc, ◌+◌, ◌≤◌, ◌<◌}
 use native.Mathlib.Numerals.{add-one}
 use native.Mathlib.Omega.{arith}
 use lib.ListN.{length}
 use Rattle.sets.specs.declared.Numbers.{Numbers}
-use Rattle.sampling.specs.Streams.{all_a}
-use Rattle.records.specs.Secret.{secret_seed_a}
 use Rattle.attempts.specs.declared.Tried.{Tried}
 use Rattle.attempts.specs.declared.Tried.TheVariants.{Passes, Fails, Overflows}
 use Rattle.attempts.specs.Attempt.{Outcome, passes, fails, overflows}
-use Rattle.attempts.specs.Asks.{Attempts, DrawsKey}
 use Rattle.attempts.specs.Promises.{Tries, tried_of, tried_signature}
 use Rattle.signing.specs.Search.{Found, next, search_from, search}
 use Rattle.signing.specs.Promises.{Gives}
-use Rattle.signing.specs.Asks.{Searches, SearchesKey}
-
--- ---- a_1..a_k, drawn once
-
-pub search_draws : {set : Numbers} {secret signature : List ℕ} {budget places : ℕ} → set.k * set.n ≡ places → SearchesKey set secret budget signature → {a : List ℕ} → length a ≡ places → DrawsKey set secret a
-search_draws e s l = record { whole = s.whole; a_long = l ∙ sym e }
-
-pub search_asks : {set : Numbers} {secret signature a : List ℕ} {budget : ℕ} → SearchesKey set secret budget signature → a ≡ all_a set (secret_seed_a set secret) → Searches set secret a budget signature
-search_asks s e = record { attempts = record { whole = s.whole; a_is = e; signature_long = s.signature_long }; few = s.few }
 
 -- ---- one counter after another
 
@@ -50,9 +38,6 @@ searching_is {try} {budget} {counter = counter} s l = go s.left s.within s.is
     go (suc left) w e = (left, (omega arith, e))
 
 module _ {try : ℕ → Outcome} {budget : ℕ} {old signature : List ℕ} {counter : ℕ} (s : Searching try budget old signature counter) where
-  pub searching_asks : {set : Numbers} {secret a : List ℕ} → Searches set secret a budget old → Attempts set secret a signature
-  searching_asks h = rw s.same h.attempts
-
   module _ (l : counter < budget + 1) {set : Numbers} {new : List ℕ} {r : Tried} (t : Tries set (try counter) signature new r) where
     abbrev later : Found
     later = search_from try (searching_is s l).0 (suc counter)
