@@ -4,7 +4,7 @@ use Rattle.std.specs.Prelude.{◌≡◌, List, ℕ, ◌≤◌, length, take}
 use Rattle.envelope.specs.Program.{program_tests, envelope_part}
 use Rattle.envelope.specs.Promises.{Opens}
 
--- what the program holds of its input at most, `BUFFER_BYTES` of the code: more than a public record and any envelope
+-- what the program holds of its input at most, the length of `io::large_buffer`: more than a public record and any envelope
 abbrev pub buffer_bytes : ℕ
 buffer_bytes = 65536
 

@@ -10,10 +10,6 @@ ghost use Rattle.roster.specs.Held.{Buffered, OpensWhole};
 
 use answers::Refusal;
 use envelope::Opened;
-use std::io;
-
-// What the program holds of its input at most: more than a public record and any envelope.
-const BUFFER_BYTES: usize = 65536;
 
 // Opens what the buffer holds of the input, its first n bytes. If they are the input's first `buffer_bytes`, or all that it has, what comes
 // back is that of the whole input. (Not one slice, `&buffer[..n]`: the condition is on the buffer's length.)
@@ -24,21 +20,28 @@ fn open_held(buffer: &[u8], n: usize) -> Result<Opened, Refusal>
     envelope::open_input(&buffer[..n])
 }
 
-// Writes the line of an answer: of an envelope that is accepted, or of a refusal.
-fn print_answer(rt: &impl Print, answer: Result<Opened, Refusal>) -> io::Result<()> {
+// Writes the line of an answer: of an envelope that is accepted, or of a refusal. By the kit's `io`: std's `println!` rests on one axiom more.
+fn print_answer(answer: Result<Opened, Refusal>) {
     match answer {
-        Ok(opened) => println!(rt; "ROSTER team={} bytes={} ok", opened.team, opened.len),
-        Err(refusal) => println!(rt; "REFUSED {}", u8::from(refusal)),
+        Ok(opened) => {
+            io::write_all(1, b"ROSTER team=");
+            io::print_decimal(1, u64::from(opened.team));
+            io::write_all(1, b" bytes=");
+            io::print_decimal(1, opened.len as u64);
+            io::write_all(1, b" ok\n");
+        }
+        Err(refusal) => {
+            io::write_all(1, b"REFUSED ");
+            io::print_decimal(1, u64::from(u8::from(refusal)));
+            io::write_all(1, b"\n");
+        }
     }
 }
 
 // Reads the input until it ends or the buffer is full, and writes the line of what is held. No contract can say what is read: that it is
-// the front of the input rests on `io::copy`. A read that fails counts as the end, and nothing is told of a write that fails.
-fn main(rt: HostRuntime) {
-    let mut input = [0; BUFFER_BYTES];
-    let mut room = &mut input[..];
-    let _ = io::copy(&mut rt.stdin(), &mut room);
-    // The contract of `copy` does not say that the room shrinks, so this saturates.
-    let held = BUFFER_BYTES.saturating_sub(room.len());
-    let _ = print_answer(&rt, open_held(&input, held));
+// the front of the input rests on `io::read_full`. A read that fails counts as the end.
+fn main() {
+    let mut input = io::large_buffer();
+    let n = io::read_full(0, &mut input);
+    print_answer(open_held(&input, n));
 }

@@ -2,7 +2,6 @@
 use answers::Refusal;
 use shake::Sponge;
 use std::convert::AsSlice;
-use std::io;
 
 // ---- numbers and parts
 
@@ -69,37 +68,32 @@ pub fn values<'a, T: Copy, F: Fn([u8; 4]) -> T>(
 
 // ---- written
 
-pub fn print(rt: &impl Print, bytes: &[u8]) -> io::Result<()> {
+// Two digits a byte, by the kit's `io`: std's `print!` rests on one axiom more.
+pub fn print(bytes: &[u8]) {
     for b in bytes {
-        print!(rt; "{b:02x}")?;
+        io::print_hex(1, u64::from(*b), 2);
     }
-    Ok(())
 }
 
 // The bytes of the values.
-pub fn print_values<T: Copy, A: AsSlice<u8> + Drop, F: Fn(T) -> A>(
-    rt: &impl Print,
-    values: &[T],
-    to_bytes: F,
-) -> io::Result<()>
+pub fn print_values<T: Copy, A: AsSlice<u8> + Drop, F: Fn(T) -> A>(values: &[T], to_bytes: F)
     requires { F.IsAlwaysCallable to_bytes }
 {
     for v in values {
-        print(rt, to_bytes(*v).as_slice())?;
+        print(to_bytes(*v).as_slice());
     }
-    Ok(())
 }
 
 // The hash of what the sponge has absorbed.
-pub fn print_squeezed(rt: &impl Print, sponge: Sponge) -> io::Result<()> {
+pub fn print_squeezed(sponge: Sponge) {
     let mut hash = [0; 32];
     sponge.squeeze(&mut hash);
-    print(rt, &hash)
+    print(&hash);
 }
 
 // The hash of the bytes.
-pub fn print_hash(rt: &impl Print, bytes: &[u8]) -> io::Result<()> {
-    print_squeezed(rt, Sponge::blank().absorb(bytes))
+pub fn print_hash(bytes: &[u8]) {
+    print_squeezed(Sponge::blank().absorb(bytes));
 }
 
 // Absorbs the bytes of the values.
@@ -117,17 +111,13 @@ pub fn absorb_values<T: Copy, A: AsSlice<u8> + Drop, F: Fn(T) -> A>(
 }
 
 // The hash of the bytes of the values.
-pub fn print_values_hash<T: Copy, A: AsSlice<u8> + Drop, F: Fn(T) -> A>(
-    rt: &impl Print,
-    values: &[T],
-    to_bytes: F,
-) -> io::Result<()>
+pub fn print_values_hash<T: Copy, A: AsSlice<u8> + Drop, F: Fn(T) -> A>(values: &[T], to_bytes: F)
     requires { F.IsAlwaysCallable to_bytes }
 {
-    print_squeezed(rt, absorb_values(Sponge::blank(), values, to_bytes))
+    print_squeezed(absorb_values(Sponge::blank(), values, to_bytes));
 }
 
 // Document 01's number, as a byte.
-pub fn print_answer<T>(rt: &impl Print, answer: &Result<T, Refusal>) -> io::Result<()> {
-    print(rt, &[answers::number(answer)])
+pub fn print_answer<T>(answer: &Result<T, Refusal>) {
+    print(&[answers::number(answer)]);
 }

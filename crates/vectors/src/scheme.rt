@@ -30,7 +30,6 @@ ghost use Rattle.std.specs.Prelude.{◌<◌};
 use crate::bytes;
 use answers::Refusal;
 use envelope::Opened;
-use std::io;
 
 // The rooms of a record and of an envelope.
 const RECORD_ROOM: usize = 16384;
@@ -61,7 +60,7 @@ fn store(room: &[u8], memory: &mut [u8], i: usize) {
 
 // ---- the algorithms
 
-fn make_key(rt: &impl Print, memory: &mut [u8], secret: &mut [u8]) -> io::Result<()> {
+fn make_key(memory: &mut [u8], secret: &mut [u8]) {
     let mut public = [0xA5; RECORD_ROOM];
     load(memory, 2, &mut public);
     let answer = keys::make_key(
@@ -72,19 +71,18 @@ fn make_key(rt: &impl Print, memory: &mut [u8], secret: &mut [u8]) -> io::Result
         bytes::lend(memory, 3, &mut public),
         secret,
     );
-    bytes::print_answer(rt, &answer)?;
-    bytes::print_hash(rt, &public)?;
+    bytes::print_answer(&answer);
+    bytes::print_hash(&public);
     store(&public, memory, 2);
-    Ok(())
 }
 
 // The number and the counter, 0 on refusal.
-fn print_signed(rt: &impl Print, signed: Result<u16, Refusal>) -> io::Result<()> {
-    bytes::print_answer(rt, &signed)?;
-    bytes::print(rt, &signed.unwrap_or(0).to_le_bytes())
+fn print_signed(signed: Result<u16, Refusal>) {
+    bytes::print_answer(&signed);
+    bytes::print(&signed.unwrap_or(0).to_le_bytes());
 }
 
-fn sign(rt: &impl Print, memory: &[u8], signature: &mut [u8]) -> io::Result<()> {
+fn sign(memory: &[u8], signature: &mut [u8]) {
     let signed = signing::sign(
         stretch(memory, 2),
         stretch(memory, 4),
@@ -92,10 +90,10 @@ fn sign(rt: &impl Print, memory: &[u8], signature: &mut [u8]) -> io::Result<()> 
         bytes::word(memory, 8),
         signature,
     );
-    print_signed(rt, signed)
+    print_signed(signed);
 }
 
-fn sign_roster(rt: &impl Print, memory: &[u8], signature: &mut [u8]) -> io::Result<()> {
+fn sign_roster(memory: &[u8], signature: &mut [u8]) {
     let signed = signing::sign_roster(
         stretch(memory, 2),
         bytes::short(memory, 9),
@@ -104,24 +102,24 @@ fn sign_roster(rt: &impl Print, memory: &[u8], signature: &mut [u8]) -> io::Resu
         bytes::word(memory, 8),
         signature,
     );
-    print_signed(rt, signed)
+    print_signed(signed);
 }
 
-fn check(rt: &impl Print, memory: &[u8]) -> io::Result<()> {
+fn check(memory: &[u8]) {
     let answer = checking::check(stretch(memory, 0), stretch(memory, 2), stretch(memory, 4));
-    bytes::print_answer(rt, &answer)
+    bytes::print_answer(&answer);
 }
 
 // ---- the records and the envelope written
 
-fn write_public(rt: &impl Print, memory: &[u8], public: &mut [u8]) -> io::Result<()> {
+fn write_public(memory: &[u8], public: &mut [u8]) {
     let mut room = [0; 4100];
     let t = bytes::values(stretch(memory, 2), &mut room, u32::from_le_bytes);
     let answer = records::write_public(t, stretch(memory, 4), public);
-    bytes::print_answer(rt, &answer)
+    bytes::print_answer(&answer);
 }
 
-fn write_secret(rt: &impl Print, memory: &[u8], secret: &mut [u8]) -> io::Result<()> {
+fn write_secret(memory: &[u8], secret: &mut [u8]) {
     let answer = records::write_secret(
         stretch(memory, 2),
         stretch(memory, 4),
@@ -130,41 +128,41 @@ fn write_secret(rt: &impl Print, memory: &[u8], secret: &mut [u8]) -> io::Result
         stretch(memory, 10),
         secret,
     );
-    bytes::print_answer(rt, &answer)
+    bytes::print_answer(&answer);
 }
 
-fn write_signature(rt: &impl Print, memory: &[u8], signature: &mut [u8]) -> io::Result<()> {
+fn write_signature(memory: &[u8], signature: &mut [u8]) {
     let mut room = [0; 2048];
     let z = bytes::values(stretch(memory, 2), &mut room, i32::from_le_bytes);
     let answer = signatures::write_signature(z, stretch(memory, 4), signature);
-    bytes::print_answer(rt, &answer)
+    bytes::print_answer(&answer);
 }
 
-fn write_envelope(rt: &impl Print, memory: &[u8], envelope: &mut [u8]) -> io::Result<()> {
+fn write_envelope(memory: &[u8], envelope: &mut [u8]) {
     let answer = envelope::write(
         bytes::short(memory, 6),
         stretch(memory, 2),
         stretch(memory, 4),
         envelope,
     );
-    bytes::print_answer(rt, &answer)
+    bytes::print_answer(&answer);
 }
 
 // One of them into what is lent of its room.
-fn write_lent(rt: &impl Print, letter: u8, memory: &mut [u8], lent: &mut [u8]) -> io::Result<()> {
+fn write_lent(letter: u8, memory: &mut [u8], lent: &mut [u8]) {
     match letter {
-        b'K' => make_key(rt, memory, lent),
-        b'S' => sign(rt, memory, lent),
-        b'R' => sign_roster(rt, memory, lent),
-        b'P' => write_public(rt, memory, lent),
-        b'E' => write_secret(rt, memory, lent),
-        b'V' => write_envelope(rt, memory, lent),
-        _ => write_signature(rt, memory, lent),
+        b'K' => make_key(memory, lent),
+        b'S' => sign(memory, lent),
+        b'R' => sign_roster(memory, lent),
+        b'P' => write_public(memory, lent),
+        b'E' => write_secret(memory, lent),
+        b'V' => write_envelope(memory, lent),
+        _ => write_signature(memory, lent),
     }
 }
 
 // The room is taken from the memory, and put back after.
-fn write(rt: &impl Print, letter: u8, memory: &mut [u8]) -> io::Result<()> {
+fn write(letter: u8, memory: &mut [u8]) {
     let len = if letter == b'V' {
         ENVELOPE_ROOM
     } else {
@@ -173,26 +171,25 @@ fn write(rt: &impl Print, letter: u8, memory: &mut [u8]) -> io::Result<()> {
     let mut most = [0xA5; ENVELOPE_ROOM];
     let room = &mut most[..len];
     load(memory, 0, room);
-    write_lent(rt, letter, memory, bytes::lend(memory, 1, room))?;
-    bytes::print_hash(rt, room)?;
+    write_lent(letter, memory, bytes::lend(memory, 1, room));
+    bytes::print_hash(room);
     store(room, memory, 0);
-    Ok(())
 }
 
 // ---- the records read
 
-fn read_public(rt: &impl Print, memory: &[u8]) -> io::Result<()> {
+fn read_public(memory: &[u8]) {
     let mut t_room = [0xA5A5A5A5; 4100];
     let t = bytes::lend(memory, 2, &mut t_room);
     let mut room = [0xA5; RECORD_ROOM];
     let seed_a = bytes::lend(memory, 3, &mut room);
     let answer = records::read_public(stretch(memory, 0), t, seed_a);
-    bytes::print_answer(rt, &answer)?;
-    bytes::print_values_hash(rt, t, u32::to_le_bytes)?;
-    bytes::print_hash(rt, seed_a)
+    bytes::print_answer(&answer);
+    bytes::print_values_hash(t, u32::to_le_bytes);
+    bytes::print_hash(seed_a);
 }
 
-fn read_secret(rt: &impl Print, memory: &[u8]) -> io::Result<()> {
+fn read_secret(memory: &[u8]) {
     let mut s_room = [0xA5; RECORD_ROOM];
     let s = bytes::lend(memory, 2, &mut s_room);
     let mut e_room = [0xA5; RECORD_ROOM];
@@ -204,23 +201,23 @@ fn read_secret(rt: &impl Print, memory: &[u8]) -> io::Result<()> {
     let mut g_room = [0xA5; RECORD_ROOM];
     let g = bytes::lend(memory, 6, &mut g_room);
     let answer = records::read_secret(stretch(memory, 0), s, e, seed_a, seed_y, g);
-    bytes::print_answer(rt, &answer)?;
-    bytes::print_hash(rt, s)?;
-    bytes::print_hash(rt, e)?;
-    bytes::print_hash(rt, seed_a)?;
-    bytes::print_hash(rt, seed_y)?;
-    bytes::print_hash(rt, g)
+    bytes::print_answer(&answer);
+    bytes::print_hash(s);
+    bytes::print_hash(e);
+    bytes::print_hash(seed_a);
+    bytes::print_hash(seed_y);
+    bytes::print_hash(g);
 }
 
-fn read_signature(rt: &impl Print, memory: &[u8]) -> io::Result<()> {
+fn read_signature(memory: &[u8]) {
     let mut z_room = [0xA5A5A5A5u32.cast_signed(); 2048];
     let z = bytes::lend(memory, 2, &mut z_room);
     let mut room = [0xA5; RECORD_ROOM];
     let c = bytes::lend(memory, 3, &mut room);
     let answer = signatures::read_signature(stretch(memory, 0), z, c);
-    bytes::print_answer(rt, &answer)?;
-    bytes::print_values_hash(rt, z, i32::to_le_bytes)?;
-    bytes::print_hash(rt, c)
+    bytes::print_answer(&answer);
+    bytes::print_values_hash(z, i32::to_le_bytes);
+    bytes::print_hash(c);
 }
 
 // ---- the envelope read and opened
@@ -229,42 +226,38 @@ fn read_signature(rt: &impl Print, memory: &[u8]) -> io::Result<()> {
 const NOTHING: Opened = Opened { team: 0, len: 0 };
 
 // The number, the team number and the hash of the roster.
-fn print_opened(
-    rt: &impl Print,
-    answer: Result<Opened, Refusal>,
-    envelope: &[u8],
-) -> io::Result<()> {
+fn print_opened(answer: Result<Opened, Refusal>, envelope: &[u8]) {
     let opened = answer.unwrap_or(NOTHING);
-    bytes::print_answer(rt, &answer)?;
-    bytes::print(rt, &opened.team.to_le_bytes())?;
-    bytes::print_hash(rt, envelope::roster(envelope, opened.len))
+    bytes::print_answer(&answer);
+    bytes::print(&opened.team.to_le_bytes());
+    bytes::print_hash(envelope::roster(envelope, opened.len));
 }
 
-fn read_envelope(rt: &impl Print, envelope: &[u8]) -> io::Result<()> {
+fn read_envelope(envelope: &[u8]) {
     let answer = envelope::read(envelope);
-    print_opened(rt, answer, envelope)?;
+    print_opened(answer, envelope);
     let len = answer.unwrap_or(NOTHING).len;
-    bytes::print_hash(rt, envelope::signature(envelope, len))
+    bytes::print_hash(envelope::signature(envelope, len));
 }
 
-fn open_envelope(rt: &impl Print, public: &[u8], envelope: &[u8]) -> io::Result<()> {
-    print_opened(rt, envelope::open(public, envelope), envelope)?;
-    bytes::print_hash(rt, envelope::open_roster(public, envelope))
+fn open_envelope(public: &[u8], envelope: &[u8]) {
+    print_opened(envelope::open(public, envelope), envelope);
+    bytes::print_hash(envelope::open_roster(public, envelope));
 }
 
-pub fn run(rt: &impl Print, letter: u8, given: &[u8], memory: &mut [u8]) -> io::Result<()> {
+pub fn run(letter: u8, given: &[u8], memory: &mut [u8]) {
     if letter == b'W' {
         bytes::copy(bytes::rest(given, 4), memory, bytes::number(given, 0));
-        return Ok(());
+        return;
     }
     bytes::copy(given, memory, 0);
     match letter {
-        b'C' => check(rt, memory),
-        b'Q' => read_public(rt, memory),
-        b'F' => read_secret(rt, memory),
-        b'Y' => read_signature(rt, memory),
-        b'N' => read_envelope(rt, stretch(memory, 0)),
-        b'O' => open_envelope(rt, stretch(memory, 0), stretch(memory, 2)),
-        _ => write(rt, letter, memory),
+        b'C' => check(memory),
+        b'Q' => read_public(memory),
+        b'F' => read_secret(memory),
+        b'Y' => read_signature(memory),
+        b'N' => read_envelope(stretch(memory, 0)),
+        b'O' => open_envelope(stretch(memory, 0), stretch(memory, 2)),
+        _ => write(letter, memory),
     }
 }

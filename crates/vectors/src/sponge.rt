@@ -7,7 +7,6 @@
 // Any other begins anew with a blank sponge.
 use crate::bytes;
 use shake::{Block, OneByte, Sponge};
-use std::io;
 
 fn absorb_each(mut sponge: Sponge, bytes: &[u8]) -> Sponge {
     for b in bytes {
@@ -16,36 +15,36 @@ fn absorb_each(mut sponge: Sponge, bytes: &[u8]) -> Sponge {
     sponge
 }
 
-fn squeeze_each(rt: &impl Print, mut sponge: Sponge, n: usize) -> io::Result<Sponge> {
+fn squeeze_each(mut sponge: Sponge, n: usize) -> Sponge {
     for _ in 0..n {
         let OneByte { state, byte } = sponge.squeeze_byte();
-        bytes::print(rt, &[byte])?;
+        bytes::print(&[byte]);
         sponge = state;
     }
-    Ok(sponge)
+    sponge
 }
 
-fn squeeze(rt: &impl Print, sponge: Sponge, given: &[u8]) -> io::Result<Sponge> {
+fn squeeze(sponge: Sponge, given: &[u8]) -> Sponge {
     let mut room = [0; 4096];
     let out = bytes::lend(given, 0, &mut room);
     let after = sponge.squeeze(out);
-    bytes::print(rt, out)?;
-    Ok(after)
+    bytes::print(out);
+    after
 }
 
-fn squeeze_block(rt: &impl Print, sponge: Sponge) -> io::Result<Sponge> {
+fn squeeze_block(sponge: Sponge) -> Sponge {
     let Block { state, bytes } = sponge.squeeze_block();
-    bytes::print(rt, &bytes)?;
-    Ok(state)
+    bytes::print(&bytes);
+    state
 }
 
-pub fn run(rt: &impl Print, letter: u8, given: &[u8], state: Sponge) -> io::Result<Sponge> {
+pub fn run(letter: u8, given: &[u8], state: Sponge) -> Sponge {
     match letter {
-        b'<' => Ok(state.absorb(given)),
-        b'(' => Ok(absorb_each(state, given)),
-        b'>' => squeeze(rt, state, given),
-        b')' => squeeze_each(rt, state, bytes::number(given, 0)),
-        b'=' => squeeze_block(rt, state),
-        _ => Ok(Sponge::blank()),
+        b'<' => state.absorb(given),
+        b'(' => absorb_each(state, given),
+        b'>' => squeeze(state, given),
+        b')' => squeeze_each(state, bytes::number(given, 0)),
+        b'=' => squeeze_block(state),
+        _ => Sponge::blank(),
     }
 }

@@ -17,39 +17,38 @@ ghost use Rattle.sampling.specs.Asks.{DrawY};
 use crate::bytes;
 use sets::{Numbers, Parameters, SetI, Stream};
 use shake::Sponge;
-use std::io;
 
 // ---- over a lent stream
 
-fn lent_a(rt: &impl Print, given: &[u8]) -> io::Result<()> {
+fn lent_a(given: &[u8]) {
     let mut room = [0xA5A5A5A5; 4100];
     let out = bytes::lend(given, 0, &mut room);
     let answer = sampling::take_a(bytes::rest(given, 4), out);
-    bytes::print_answer(rt, &answer)?;
-    bytes::print_values(rt, out, u32::to_le_bytes)
+    bytes::print_answer(&answer);
+    bytes::print_values(out, u32::to_le_bytes);
 }
 
-fn lent_y(rt: &impl Print, given: &[u8]) -> io::Result<()> {
+fn lent_y(given: &[u8]) {
     let mut room = [0xA5A5A5A5u32.cast_signed(); 2048];
     let out = bytes::lend(given, 0, &mut room);
     let answer = sampling::take_y(bytes::rest(given, 4), out);
-    bytes::print_answer(rt, &answer)?;
-    bytes::print_values(rt, out, i32::to_le_bytes)
+    bytes::print_answer(&answer);
+    bytes::print_values(out, i32::to_le_bytes);
 }
 
-fn lent_positions(rt: &impl Print, given: &[u8]) -> io::Result<()> {
+fn lent_positions(given: &[u8]) {
     let mut room = [0xA5A5; 2048];
     let positions = bytes::lend(given, 0, &mut room);
     let mut sign_room = [0xA5u8.cast_signed(); 2048];
     let signs = bytes::lend(given, 1, &mut sign_room);
     let answer = sampling::take_positions(bytes::rest(given, 8), positions, signs);
-    bytes::print_answer(rt, &answer)?;
-    print_positions(rt, positions, signs)
+    bytes::print_answer(&answer);
+    print_positions(positions, signs);
 }
 
-fn print_positions(rt: &impl Print, positions: &[u16], signs: &[i8]) -> io::Result<()> {
-    bytes::print_values(rt, positions, u16::to_le_bytes)?;
-    bytes::print_values(rt, signs, i8::to_le_bytes)
+fn print_positions(positions: &[u16], signs: &[i8]) {
+    bytes::print_values(positions, u16::to_le_bytes);
+    bytes::print_values(signs, i8::to_le_bytes);
 }
 
 // ---- drawn
@@ -67,12 +66,12 @@ fn absorb_a(set: Numbers, seed_a: &[u8], a: &mut [u32]) -> Sponge
     sponge
 }
 
-fn drawn_a(rt: &impl Print, seed_a: &[u8]) -> io::Result<()> {
+fn drawn_a(seed_a: &[u8]) {
     let mut a = [0; SetI::N];
-    bytes::print_squeezed(rt, absorb_a(SetI::numbers(), seed_a, &mut a))
+    bytes::print_squeezed(absorb_a(SetI::numbers(), seed_a, &mut a));
 }
 
-fn drawn_y(rt: &impl Print, given: &[u8]) -> io::Result<()> {
+fn drawn_y(given: &[u8]) {
     let mut y = [0; SetI::N];
     sampling::drawn::draw_y(
         SetI::numbers(),
@@ -80,31 +79,31 @@ fn drawn_y(rt: &impl Print, given: &[u8]) -> io::Result<()> {
         bytes::short(given, 0),
         &mut y,
     );
-    bytes::print_values_hash(rt, &y, i32::to_le_bytes)
+    bytes::print_values_hash(&y, i32::to_le_bytes);
 }
 
-fn enc(rt: &impl Print, c: &[u8]) -> io::Result<()> {
+fn enc(c: &[u8]) {
     let mut positions = [0; SetI::H];
     let mut signs = [0; SetI::H];
     sampling::drawn::draw_enc(SetI::numbers(), c, &mut positions, &mut signs);
-    print_positions(rt, &positions, &signs)
+    print_positions(&positions, &signs);
 }
 
 // ---- hashed
 
-fn message(rt: &impl Print, given: &[u8]) -> io::Result<()> {
+fn message(given: &[u8]) {
     let mut out = [0; 40];
     sampling::digests::message_digest(SetI::numbers(), given, &mut out);
-    bytes::print(rt, &out)
+    bytes::print(&out);
 }
 
-fn key(rt: &impl Print, given: &[u8]) -> io::Result<()> {
+fn key(given: &[u8]) {
     let mut out = [0; 40];
     sampling::digests::key_digest(SetI::numbers(), given, &mut out);
-    bytes::print(rt, &out)
+    bytes::print(&out);
 }
 
-fn rand(rt: &impl Print, given: &[u8]) -> io::Result<()> {
+fn rand(given: &[u8]) {
     let mut out = [0; 32];
     sampling::digests::rand_of(
         SetI::numbers(),
@@ -113,10 +112,10 @@ fn rand(rt: &impl Print, given: &[u8]) -> io::Result<()> {
         bytes::rest(given, 64),
         &mut out,
     );
-    bytes::print(rt, &out)
+    bytes::print(&out);
 }
 
-fn challenge(rt: &impl Print, given: &[u8]) -> io::Result<()> {
+fn challenge(given: &[u8]) {
     let mut out = [0; 32];
     let highs = SetI::numbers()
         .fresh(Stream::Challenge)
@@ -127,21 +126,21 @@ fn challenge(rt: &impl Print, given: &[u8]) -> io::Result<()> {
         bytes::part(given, 40, 40),
         &mut out,
     );
-    bytes::print(rt, &out)
+    bytes::print(&out);
 }
 
-pub fn run(rt: &impl Print, letter: u8, given: &[u8]) -> io::Result<()> {
+pub fn run(letter: u8, given: &[u8]) {
     match letter {
-        b'a' => lent_a(rt, given),
-        b'y' => lent_y(rt, given),
-        b'p' => lent_positions(rt, given),
-        b'd' => drawn_a(rt, given),
-        b's' => drawn_y(rt, given),
-        b'e' => enc(rt, given),
-        b'm' => message(rt, given),
-        b'g' => key(rt, given),
-        b'r' => rand(rt, given),
-        b'c' => challenge(rt, given),
-        _ => Ok(()),
+        b'a' => lent_a(given),
+        b'y' => lent_y(given),
+        b'p' => lent_positions(given),
+        b'd' => drawn_a(given),
+        b's' => drawn_y(given),
+        b'e' => enc(given),
+        b'm' => message(given),
+        b'g' => key(given),
+        b'r' => rand(given),
+        b'c' => challenge(given),
+        _ => {}
     }
 }

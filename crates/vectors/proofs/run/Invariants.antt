@@ -3,4 +3,4 @@ use Rattle.std.proofs.Common.{length}
 use Rattle.vectors.proofs.run.Given as goal
 
 abbrev pub decreases-loop-letter : goal.decreases-loop-letter
-decreases-loop-letter g l = length l.rest
+decreases-loop-letter l = length l.rest
