@@ -16,18 +16,19 @@ fn hand_out(
 ) -> u8
     ensures { HandsOut answer result team.new roster_start.new roster_len.new }
 {
+    let answered = number(&answer);
     match answer {
         Ok(opened) => {
             *team = opened.team;
             *roster_start = envelope::head::HEAD_BYTES;
             *roster_len = opened.len;
-            0
+            answered
         }
-        Err(refusal) => {
+        Err(_) => {
             *team = 0;
             *roster_start = 0;
             *roster_len = 0;
-            u8::from(refusal)
+            answered
         }
     }
 }

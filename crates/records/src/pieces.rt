@@ -1,14 +1,25 @@
 // What the records are made of: marks, and bytes that are copied into their place.
-ghost use Rattle.std.specs.Prelude.{◌≡◌, ◌++◌, ◌+◌, length, get_or, take, drop};
+ghost use Rattle.std.specs.Prelude.{◌≡◌, ◌++◌, ◌+◌, ◌≤◌, length, get_or, take, drop};
 ghost use Rattle.records.specs.Layout.{mark, marked, stretch};
 ghost use Rattle.records.specs.Asks.{CopiesAt, CopiesOut, Marks};
+
+// Copies from into the front of to. What follows stays.
+fn copy_in(from: &[u8], to: &mut [u8])
+    requires { length from.now ≤ length to.old }
+    ensures { to.new ≡ from.now ++ drop (length from.now) to.old }
+{
+    // A loop: `copy_from_slice` of a length that the compiler does not know is a call of `memmove`, which the archive for C must not ask for.
+    for (i, byte) in from.iter().enumerate() {
+        to[i] = *byte;
+    }
+}
 
 // Copies from into to, from index at on. What stands before and after it stays.
 pub fn copy_at(from: &[u8], to: &mut [u8], at: usize)
     requires { CopiesAt from.now to.old at }
     ensures { to.new ≡ take at to.old ++ (from.now ++ drop (at + length from.now) to.old) }
 {
-    to[at..at + from.len()].copy_from_slice(from);
+    copy_in(from, &mut to[at..]);
 }
 
 // Fills to with the bytes of from, from index at on.
@@ -17,7 +28,7 @@ pub fn copy_out(from: &[u8], at: usize, to: &mut [u8])
     ensures { to.new ≡ stretch at (length to.old) from.now }
 {
     let len = to.len();
-    to.copy_from_slice(&from[at..at + len]);
+    copy_in(&from[at..at + len], to);
 }
 
 // Writes the mark of record j into the front of out. What follows stays. j is a number, since the promise is of every j that fits the mark.

@@ -14,6 +14,7 @@ use lib.IntN.{ℤ}
 use lib.ListN.{length, get_or, take, drop, set, take-append-drop, length-drop, length-map}
 use lib.Seq.{take-suc, take_all}
 use Rattle.std.specs.List.{list_any}
+use Rattle.std.proofs.lemmas.List.Folds.{list_any-append}
 use Rattle.std.proofs.lemmas.Cmp.{nat_eq_equiv}
 use Rattle.whole.specs.Int.{lt_or_le, less_one}
 use Rattle.whole.specs.Below.{Below}
@@ -55,6 +56,13 @@ contained p ps e = e ∙ go ps
     go : (qs : List ℕ) → list_any (λ y. eqb y p) qs ≡ is_in p qs
     go [] = refl
     go (q ∷ qs) = ap₂ ◌||◌ (nat_eq_equiv.symm q p) (go qs)
+
+-- and what is found in one of two parts
+pub contained_parts : {first last : Bool} (p m : ℕ) (ps : List ℕ) → first ≡ list_any (λ y. eqb y p) (take m ps) → last ≡ list_any (λ y. eqb y p) (drop m ps)
+    → (first || last) ≡ is_in p ps
+contained_parts p m ps e f =
+    contained p ps
+    (ap₂ ◌||◌ e f ∙ sym (list_any-append (λ y. eqb y p) (take m ps) (drop m ps)) ∙ ap (list_any (λ y. eqb y p)) (take-append-drop m ps))
 
 -- ---- the next free position
 

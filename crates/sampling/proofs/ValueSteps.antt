@@ -102,8 +102,9 @@ pub record Taking {A : Type 0} (Is : (ℕ → A) → Type 0) (range need later s
   pub room : next + min still (held size stretch - j) ≤ length old
 
 module _ {A : Type 0} {Is : (ℕ → A) → Type 0} {range need later size bits at : ℕ} {stretch : List ℕ} {old : List A} where
-  pub taking_none : at + min need (held size stretch) ≤ length old → Taking Is range need later size bits stretch old at old at need (held size stretch + later) 0
-  taking_none l =
+  pub taking_none : {still : ℕ} → still ≡ need → at + min need (held size stretch) ≤ length old
+      → Taking Is range need later size bits stretch old at old at still (held size stretch + later) 0
+  taking_none e l =
       record {
         done = λ g k. rw none (stored_none old refl);
         long = refl;

@@ -11,7 +11,7 @@ ghost use Rattle.sets.specs.Good.{Good};
 ghost use Rattle.sets.specs.SetI.{set_i};
 ghost use Rattle.packing.specs.Digits.{value};
 ghost use Rattle.sampling.specs.Candidates.{candidates};
-ghost use Rattle.sampling.specs.Positions.{free, sign_of, drawn_candidates};
+ghost use Rattle.sampling.specs.Positions.{is_in, free, sign_of, drawn_candidates};
 ghost use Rattle.sampling.specs.Streams.{two_bytes};
 ghost use Rattle.sampling.specs.Stretches.{part, part_positions, drawn_as};
 ghost use Rattle.sampling.specs.Values.{less_of};
@@ -44,20 +44,6 @@ fn candidate(bytes: &[u8], bits: u32) -> u32
 
 // ---- values
 
-// What is taken of candidate c for a value below range, with `left` candidates after it and `need` values needed.
-fn taken(c: u32, range: u32, left: usize, need: usize) -> Option<u32>
-    requires { (0 < need) × (c < 2 * range) }
-    ensures { MatchOption result (part range need left (c ∷ []) ≡ []) (λ v. (v < range) × (part range need left (c ∷ []) ≡ v ∷ [])) }
-{
-    if c < range {
-        Some(c)
-    } else if left < need {
-        Some(c - range)
-    } else {
-        None
-    }
-}
-
 // The values below range of a stretch of candidates of SIZE bytes, which `later` candidates follow, where `need` values are needed of all
 // of them: what `keep` makes of each is stored in out from `at` on. Answers the next place.
 fn keep_values<const SIZE: usize, T: Copy, F: Fn(u32) -> T>(
@@ -65,7 +51,7 @@ fn keep_values<const SIZE: usize, T: Copy, F: Fn(u32) -> T>(
     bits: u32,
     range: u32,
     later: usize,
-    mut need: usize,
+    need: usize,
     keep: F,
     out: &mut [T],
     at: usize,
@@ -78,14 +64,19 @@ fn keep_values<const SIZE: usize, T: Copy, F: Fn(u32) -> T>(
     let mut next = at;
     let mut left = pieces.len() + later;
     for bytes in pieces {
-        if need == 0 {
+        let taken = next - at;
+        if taken == need {
             break;
         }
         left -= 1;
-        if let Some(v) = taken(candidate(bytes, bits), range, left, need) {
-            out[next] = keep(v);
+        let c = candidate(bytes, bits);
+        // a store in each arm: a candidate in range is then tested for nothing more
+        if c < range {
+            out[next] = keep(c);
             next += 1;
-            need -= 1;
+        } else if left < need - taken {
+            out[next] = keep(c - range);
+            next += 1;
         }
     }
     next
@@ -175,13 +166,24 @@ fn next_free(ps: &[u16], n: u32, p: u16) -> u16
     at
 }
 
+// Whether p is among ps. The first eight are compared one after another, up to the first that is equal: `contains` reads on to the end of
+// a group.
+fn among(ps: &[u16], p: u16) -> bool
+    ensures { result ≡ is_in p ps.now }
+{
+    match ps.split_first_chunk::<8>() {
+        Some((first, rest)) => first.iter().any(|q| *q == p) || rest.contains(&p),
+        None => ps.iter().any(|q| *q == p),
+    }
+}
+
 // The position that a candidate for p gets below n, with `left` candidates after it and `need` positions needed, where those of ps are
 // taken already.
 fn placed(p: u16, n: u32, left: usize, need: usize, ps: &[u16]) -> Option<u16>
     requires { (p < n) × (n ≤ 65536) × (0 < need) }
     ensures { (s : ℤ) → MatchOption result (part_positions n need left ps.now (drawn_as p s ∷ []) ≡ []) (λ q. part_positions n need left ps.now (drawn_as p s ∷ []) ≡ drawn_as q s ∷ []) }
 {
-    if !ps.contains(&p) {
+    if !among(ps, p) {
         Some(p)
     } else if left < need {
         Some(next_free(ps, n, p))

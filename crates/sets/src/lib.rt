@@ -118,6 +118,13 @@ pub trait Parameters {
         Self::SET
     }
 
+    // The fresh sponge of one of its streams. Nothing is asked: `good` says that the digit fits a mark.
+    fn fresh(stream: Stream) -> Sponge
+        ensures { result ≡ fresh SET.digit (stream_number stream) }
+    {
+        Self::numbers().fresh(stream)
+    }
+
     ghost good: { Good SET };
 }
 

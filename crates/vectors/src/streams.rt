@@ -117,9 +117,7 @@ fn rand(given: &[u8]) {
 
 fn challenge(given: &[u8]) {
     let mut out = [0; 32];
-    let highs = SetI::numbers()
-        .fresh(Stream::Challenge)
-        .absorb(bytes::rest(given, 80));
+    let highs = SetI::fresh(Stream::Challenge).absorb(bytes::rest(given, 80));
     sampling::digests::challenge_of(
         highs,
         bytes::part(given, 0, 40),
