@@ -10,7 +10,7 @@
  * may be null. What is written overlaps nothing else that the call is given. Pointers without a length are not null.
  *
  * Nothing is kept between calls, allocated, or read from elsewhere, so that calls may run side by side. A call takes less than 64 KiB of stack.
- * The code is not constant-time.
+ * The archive asks memcpy and memset of whoever links it, and nothing else. The code is not constant-time.
  */
 #ifndef MAESIKKONG_H
 #define MAESIKKONG_H

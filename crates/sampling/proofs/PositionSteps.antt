@@ -57,12 +57,13 @@ contained p ps e = e ∙ go ps
     go [] = refl
     go (q ∷ qs) = ap₂ ◌||◌ (nat_eq_equiv.symm q p) (go qs)
 
--- and what is found in one of two parts
-pub contained_parts : {first last : Bool} (p m : ℕ) (ps : List ℕ) → first ≡ list_any (λ y. eqb y p) (take m ps) → last ≡ list_any (λ y. eqb y p) (drop m ps)
-    → (first || last) ≡ is_in p ps
-contained_parts p m ps e f =
-    contained p ps
-    (ap₂ ◌||◌ e f ∙ sym (list_any-append (λ y. eqb y p) (take m ps) (drop m ps)) ∙ ap (list_any (λ y. eqb y p)) (take-append-drop m ps))
+-- what is found in one of two parts is among them
+pub in_parts : {first last : Bool} (p m : ℕ) (ps : List ℕ) → first ≡ is_in p (take m ps) → last ≡ is_in p (drop m ps) → (first || last) ≡ is_in p ps
+in_parts p m ps e f =
+    ap₂ ◌||◌ (e ∙ sym (contained p (take m ps) refl)) (f ∙ sym (contained p (drop m ps) refl))
+    ∙ sym (list_any-append (λ y. eqb y p) (take m ps) (drop m ps))
+    ∙ ap (list_any (λ y. eqb y p)) (take-append-drop m ps)
+    ∙ contained p ps refl
 
 -- ---- the next free position
 

@@ -166,14 +166,20 @@ fn next_free(ps: &[u16], n: u32, p: u16) -> u16
     at
 }
 
-// Whether p is among ps. The first eight are compared one after another, up to the first that is equal: `contains` reads on to the end of
-// a group.
+// Whether p is among ps, which are few: one after another, up to the first that is equal.
+fn in_few(ps: &[u16], p: u16) -> bool
+    ensures { result ≡ is_in p ps.now }
+{
+    ps.iter().any(|q| *q == p)
+}
+
+// Whether p is among ps. The first eight count as few: `contains` reads on to the end of a group.
 fn among(ps: &[u16], p: u16) -> bool
     ensures { result ≡ is_in p ps.now }
 {
     match ps.split_first_chunk::<8>() {
-        Some((first, rest)) => first.iter().any(|q| *q == p) || rest.contains(&p),
-        None => ps.iter().any(|q| *q == p),
+        Some((first, rest)) => in_few(first, p) || rest.contains(&p),
+        None => in_few(ps, p),
     }
 }
 
